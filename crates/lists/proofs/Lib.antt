@@ -1,0 +1,6 @@
+pub mod At
+pub mod Each
+pub mod Part
+pub mod Regroup
+pub mod Tab
+pub mod Turns

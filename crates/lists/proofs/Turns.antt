@@ -1,0 +1,35 @@
+-- One turn more, and when two runs of turns end alike.
+-- Each holds by the definition, at the last turn.
+use mathlib.Core.Path.{_≡_, refl, ap, _∙_}
+use Prim.Native.Nat.{ℕ, zero, suc, _+_, _<_}
+use native.Mathlib.Numerals.{add-one}
+use native.Mathlib.Omega.{arith}
+use Rattle.lists.specs.Chunks.{turns}
+
+module _ {A : Type 0} where
+  -- turn j makes j turns j + 1
+  pub turns-turn : (j : ℕ) (f : ℕ → A → A) (x : A) → f j (turns j f x) ≡ turns (j + 1) f x
+  unfolding turns
+  turns-turn j f x = rw add-one
+
+  -- the same of what a loop has in hand: y after j turns, and z after one more
+  pub turns-next : (j : ℕ) (f : ℕ → A → A) (x : A) {y z : A} → y ≡ turns j f x → z ≡ f j y → z ≡ turns (j + 1) f x
+  turns-next j f x o e = e ∙ rw o (turns-turn j f x)
+
+  -- turns that agree at each value that is reached end alike
+  pub turns-same : (n : ℕ) (f g : ℕ → A → A) (x : A)
+      → ((i : ℕ) → i < n → f i (turns i f x) ≡ g i (turns i f x)) → turns n f x ≡ turns n g x
+  unfolding turns
+  turns-same zero f g x e = refl
+  turns-same (suc n) f g x e = let h = turns-same n f g x (λ i b. e i (omega arith)) in rw (e n (omega arith), h)
+
+  -- equal starts end alike
+  pub turns-start : (n : ℕ) (f : ℕ → A → A) {x y : A} → x ≡ y → turns n f x ≡ turns n f y
+  turns-start n f e = ap (turns n f) e
+
+  -- what holds at the start, and which each turn keeps, holds at the end
+  pub turns-keep : (P : A → Type 0) (n : ℕ) (f : ℕ → A → A) {x : A}
+      → ((i : ℕ) → i < n → (y : A) → P y → P (f i y)) → P x → P (turns n f x)
+  unfolding turns
+  turns-keep P zero f k p = p
+  turns-keep P (suc n) f k p = k n (omega arith) _ (turns-keep P n f (λ i b. k i (omega arith)) p)
