@@ -1,0 +1,7 @@
+pub mod CodeLaws
+mod Largest
+mod Patterns
+mod Reading
+mod Rounding
+pub mod ScaleLaws
+mod Signs

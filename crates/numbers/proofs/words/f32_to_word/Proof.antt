@@ -1,0 +1,19 @@
+-- `words::f32_to_word` meets its contract: a float that differs from itself is the NaN, and any other has a word of its own.
+use borrow.Author.Needs.{needs}
+use lib.Ieee.{toBits}
+use Rattle.numbers.proofs.Patterns.{differs, no-nan}
+use Rattle.numbers.proofs.words.f32_to_word.Statement.{statement}
+use Rattle.numbers.proofs.words.f32_to_word.Tie as tie
+
+float-to-bits-result : tie.Need-float-to-bits-result
+float-to-bits-result c = no-nan _ (c .if1 .left)
+
+returns : tie.Need-returns
+unfolding toBits
+returns c = rw (differs _ (c .if1 .taken))
+
+returns-2 : tie.Need-returns-2
+returns-2 c = search needs
+
+pub f32-to-word-spec : {M : Type 1} → statement M
+f32-to-word-spec = tie.close (tie.spec float-to-bits-result returns returns-2)
