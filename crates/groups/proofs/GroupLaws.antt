@@ -1,0 +1,42 @@
+-- The lengths of a group's two forms, what its test tells, and how the two halves of the numbers make the whole.
+use mathlib.Core.Path.{_≡_, refl}
+use mathlib.Core.Bool.{Bool, true, false, _&&_}
+use mathlib.Core.List.{List, _++_, append-assoc}
+use Prim.Native.Nat.{ℕ, _+_, _≤_}
+use borrow.Author.Tests.{leb-true}
+use lib.Dec.{leb}
+use lib.ListN.{length, take, drop, length-append}
+use lib.Seq.{take-at, drop-at, drop-drop}
+use lib.Ieee.{Float}
+use Rattle.lists.proofs.Tab.{tab-length}
+use Rattle.groups.specs.Group.{packed, half, unpacked, holds, byteAt, numberAt}
+
+both : (p q : Bool) → (p && q) ≡ true → (p ≡ true) × (q ≡ true)
+both true q h = (refl, h)
+both false q h = (cc, cc)
+
+pub enough : (numbers bytes : ℕ) → holds numbers bytes ≡ true → (32 ≤ numbers) × (16 ≤ bytes)
+unfolding holds
+enough numbers bytes h =
+    let t = both (leb 32 numbers) (leb 16 bytes) h in
+    (leb-true 32 numbers (t .0), leb-true 16 bytes (t .1))
+
+pub packed-length : (numbers : List ℕ) (scale : Float) → length (packed numbers scale) ≡ 16
+unfolding packed
+packed-length numbers scale = tab-length 16 (byteAt numbers scale)
+
+half-length : (k : ℕ) (bytes : List ℕ) (scale : Float) → length (half k bytes scale) ≡ 16
+unfolding half
+half-length k bytes scale = tab-length 16 (numberAt k bytes scale)
+
+pub unpacked-length : (bytes : List ℕ) (scale : Float) → length (unpacked bytes scale) ≡ 32
+unfolding unpacked
+unpacked-length bytes scale = rw (length-append, half-length 0 bytes scale, half-length 4 bytes scale)
+
+-- the low halves written to the first 16 places and then the high halves to the next 16
+pub halves : (bytes : List ℕ) (scale : Float) (l : List ℕ)
+    → let d = half 0 bytes scale ++ drop 16 l in take 16 d ++ (half 4 bytes scale ++ drop 16 (drop 16 d)) ≡ unpacked bytes scale ++ drop 32 l
+unfolding unpacked
+halves bytes scale l =
+    let e = half-length 0 bytes scale in
+    rw (take-at _ (drop 16 l) 16 e, drop-at _ (drop 16 l) 16 e, drop-drop, append-assoc)
