@@ -1,0 +1,71 @@
+-- The examples that 01's section Examples marks to be proved, as one list: what is asked, and what the paper says comes out.
+use Prim.Native.Nat.{ℕ}
+use mathlib.Core.Path.{_≡_}
+use mathlib.Core.List.{List, [], _∷_, _++_, map}
+use lib.ListN.{replicate}
+use Rattle.numbers.specs.Word.{float, word, bf16}
+use Rattle.numbers.specs.Scale.{scaleOf}
+use Rattle.numbers.specs.Code.{code8}
+use Rattle.groups.specs.Group.{packed, unpacked}
+
+pub data Asked : Type 0 where
+  -- the scale of a run, by its divisor
+  scale : ℕ → List ℕ → Asked
+  -- a run in INT8: its scale and its codes
+  run8 : List ℕ → Asked
+  -- a run of 32 in INT4: its scale, its bytes, and what these read as
+  group4 : List ℕ → Asked
+  -- the INT8 code of a quotient, by its pattern
+  quotient : ℕ → Asked
+  -- the BF16 pattern of a word
+  half : ℕ → Asked
+
+-- what comes out: floats as words
+unfoldable pub outcome : Asked → List ℕ
+outcome (scale divisor run) = word (scaleOf divisor run) ∷ []
+outcome (run8 run) = word (scaleOf 127 run) ∷ map (λ w. code8 w (scaleOf 127 run)) run
+outcome (group4 run) = word (scaleOf 7 run) ∷ (packed run (scaleOf 7 run) ++ unpacked (packed run (scaleOf 7 run)) (scaleOf 7 run))
+outcome (quotient bits) = code8 bits (float 0x3f80_0000) ∷ []
+outcome (half w) = bf16 w ∷ []
+
+-- example n of the paper: what is asked, and what it says
+pub data Example : Type 0 where
+  P : ℕ → Asked → List ℕ → Example
+
+abbrev pub Holds : Example → Type 0
+Holds (P n asked said) = outcome asked ≡ said
+
+abbrev pub AllHold : List Example → Type 0
+AllHold [] = Unit {0}
+AllHold (e ∷ es) = Holds e × AllHold es
+
+-- n numbers or bytes alike
+abbrev all : ℕ → ℕ → List ℕ
+all n w = replicate n w
+
+unfoldable pub examples : List Example
+examples =
+    -- 127, 0.5, -0.5, -2.5
+    P 1 (run8 (0x42fe_0000 ∷ 0x3f00_0000 ∷ 0xbf00_0000 ∷ 0xc020_0000 ∷ [])) (0x3f80_0000 ∷ 0x7f ∷ 0x01 ∷ 0xff ∷ 0xfd ∷ [])
+    -- 7 at 0, -7 at 16
+    ∷ P 2 (group4 (0x40e0_0000 ∷ all 15 0 ++ (0xc0e0_0000 ∷ all 15 0)))
+    (0x3f80_0000 ∷ 0x1f ∷ all 15 0x88 ++ (0x40e0_0000 ∷ all 15 0 ++ (0xc0e0_0000 ∷ all 15 0)))
+    -- all zero; all NaN, of two payloads and both signs
+    ∷ P 3 (group4 (all 32 0)) (0x3f80_0000 ∷ all 16 0x88 ++ all 32 0)
+    ∷ P 3 (group4 (all 20 0x7fc0_0000 ++ all 12 0xff80_0001)) (0x3f80_0000 ∷ all 16 0x88 ++ all 32 0)
+    -- one infinity, either sign, the rest finite
+    ∷ P 4 (group4 (0x7f80_0000 ∷ all 31 0x3f80_0000)) (0x7f80_0000 ∷ all 16 0x88 ++ all 32 0x7fc0_0000)
+    ∷ P 4 (group4 (all 20 0xff7f_ffff ++ (0xff80_0000 ∷ all 11 1))) (0x7f80_0000 ∷ all 16 0x88 ++ all 32 0x7fc0_0000)
+    -- 3, -2, 0, -0 smallest subnormals at 0 to 3, -3 and 1 at 16 and 17
+    ∷ P 5 (group4 (3 ∷ 0x8000_0002 ∷ 0 ∷ 0x8000_0000 ∷ all 12 0 ++ (0x8000_0003 ∷ 1 ∷ all 14 0)))
+    (0 ∷ 0x0f ∷ 0xf0 ∷ all 14 0x88 ++ (0 ∷ 0x8000_0000 ∷ all 14 0 ++ (0x8000_0000 ∷ all 15 0)))
+    ∷ P 5 (scale 7 (all 31 0 ++ (4 ∷ []))) (1 ∷ [])
+    ∷ P 6 (scale 127 (63 ∷ [])) (0 ∷ [])
+    ∷ P 6 (scale 127 (64 ∷ [])) (1 ∷ [])
+    ∷ P 7 (quotient 0x3eff_ffff) (0 ∷ [])
+    ∷ P 7 (quotient 0x3f00_0000) (1 ∷ [])
+    ∷ P 7 (quotient 0xbf00_0000) (0xff ∷ [])
+    ∷ P 8 (half 0x3f80_8000) (0x3f80 ∷ [])
+    ∷ P 8 (half 0x3f81_8000) (0x3f82 ∷ [])
+    ∷ P 8 (half 0x7f7f_ffff) (0x7f80 ∷ [])
+    ∷ []
