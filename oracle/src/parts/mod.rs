@@ -1,0 +1,22 @@
+//! The parts of the comparison.
+mod bf16;
+mod codes;
+mod groups;
+mod reading;
+mod scales;
+
+use crate::part::{Part, Reach};
+
+/// Every part, in the order in which they are run.
+pub fn all(reach: Reach) -> Vec<Part> {
+    [
+        codes::parts(reach),
+        scales::parts(reach),
+        groups::parts(reach),
+        reading::parts(reach),
+        bf16::parts(reach),
+    ]
+    .into_iter()
+    .flatten()
+    .collect()
+}
