@@ -1,4 +1,4 @@
-//! What the scope page decides beside the Rust: reading, words of arithmetic, BF16.
+//! What the paper decides beside the Rust: reading, words of arithmetic, BF16.
 use crate::rust::{unpack_i4_group, INT4_GROUP_SIZE};
 
 /// The word that a NaN made by arithmetic is written as.

@@ -1,4 +1,4 @@
--- The examples that 01's section Examples marks to be proved, as one list: what is asked, and what the paper says comes out.
+-- The examples that the paper's section Examples marks to be proved, as one list: what is asked, and what the paper says comes out.
 use Prim.Native.Nat.{ℕ}
 use mathlib.Core.Path.{_≡_}
 use mathlib.Core.List.{List, [], _∷_, _++_, map}

@@ -1,4 +1,4 @@
--- The code of one number under a scale, and what a code reads as: the second and fourth points of 01's section Codes.
+-- The code of one number under a scale, and what a code reads as: the second and fourth points of the paper's section Codes.
 use Prim.Native.Nat.{ℕ, suc, _+_, _-_, _*_, _/_, min}
 use mathlib.Core.Bool.{cond}
 use lib.IntN.{ℤ, pos, negsuc, negℤ}

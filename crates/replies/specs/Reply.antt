@@ -1,4 +1,4 @@
--- The number of each reply, as the table of 01's section Replies has it.
+-- The number of each reply, as the table of the paper's section Replies has it.
 use Prim.Native.Nat.{ℕ}
 use Rattle.replies.specs.declared.Reply.{Reply}
 use Rattle.replies.specs.declared.Reply.the-variants.{Done, Shape, Room, Lengths, Layer, Head, Format, Size, Position, Full, Sequence}

@@ -1,4 +1,4 @@
-// The answer of a call, and the paper's number for it: 01's section Replies.
+// The answer of a call, and the paper's number for it: the paper's section Replies.
 ghost use mathlib.Core.Path.{_≡_};
 ghost use Rattle.replies.specs.Reply.{replyNumber};
 

@@ -1,4 +1,4 @@
-//! BF16 both ways, against the scope page's rule: the body of `f32_to_bf16` is not in the Rust's text.
+//! BF16 both ways, against the paper's rule: the body of `f32_to_bf16` is not in the Rust's text.
 use crate::part::{Part, Reach};
 use crate::patterns::each_pattern;
 use crate::tally::Tally;

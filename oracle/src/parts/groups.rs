@@ -91,7 +91,7 @@ fn unpack(numbers: usize, bytes: usize, dice: &mut Dice, tally: &mut Tally) {
     });
 }
 
-/// The reply that the scope page gives to such lengths.
+/// The reply that the paper gives to such lengths.
 fn reply_to(numbers: usize, bytes: usize) -> u32 {
     if numbers < NUMBERS || bytes < BYTES {
         SHORT

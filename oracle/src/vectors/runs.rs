@@ -10,7 +10,7 @@ const LENGTHS: [usize; 6] = [1, 2, 31, 32, 33, 64];
 /// Random runs of random length.
 const RANDOM_RUNS: u64 = 20;
 
-/// The runs of the list: the scope page's examples, others by hand, random ones, and an empty one last.
+/// The runs of the list: the paper's examples, others by hand, random ones, and an empty one last.
 pub fn all() -> Vec<Vec<u32>> {
     let mut runs = examples();
     runs.extend(boundaries());
@@ -19,7 +19,7 @@ pub fn all() -> Vec<Vec<u32>> {
     runs
 }
 
-/// The examples P1 to P8 of the scope page.
+/// The examples P1 to P8 of the paper.
 pub fn examples() -> Vec<Vec<u32>> {
     vec![
         floats(&[127.0, 0.5, -0.5, -2.5]),
