@@ -63,7 +63,7 @@ loop-less : tie.Need-loop-less Inv-loop μ-loop
 loop-less c = search needs
 
 loop-again : tie.Need-loop-again Inv-loop μ-loop
-loop-again c = (omega arith, tab-set _ _ _ (omega arith) (c .before .before .before .before .before .loop .inv .1) (cc), search needs)
+loop-again c = (omega arith, tab-set _ _ _ (omega arith) (c .before .before .before .before .before .loop .inv .1) (rw (c .before .before .quantize-i4 .ensures, c .quantize-i42 .ensures)), search needs)
 
 same-length : tie.Need-same-length Inv-loop μ-loop
 same-length c = search needs
