@@ -6,8 +6,8 @@ use Prim.Native.Nat.{ℕ, _+_, _-_, _≤_}
 use native.Mathlib.Omega.{arith}
 use lib.ListN.{length, take, drop, length-append, length-drop, take-append-drop}
 use lib.Seq.{length-take-le, take-at, drop-at, take-add, drop-drop, take-append-le, drop-append-le}
-use Rattle.lists.specs.Chunks.{at}
-use Rattle.lists.proofs.Part.{part, Keeps, part-length, part-left, part-before, part-after}
+use Rattle.lists.specs.Chunks.{part, at}
+use Rattle.lists.proofs.Part.{Keeps, part-length, part-left, part-before, part-after}
 
 module _ {A : Type 0} (a k : ℕ) (f : List A → List A) (l : List A) where
   -- the definition, as an equation

@@ -8,8 +8,8 @@ use native.Mathlib.Numerals.{add-one}
 use native.Mathlib.Omega.{arith}
 use lib.ListN.{length, take, drop, length-append, length-drop, take-append-drop}
 use lib.Seq.{length-take-le, take-at, drop-at, drop-drop}
-use Rattle.lists.specs.Chunks.{at, each}
-use Rattle.lists.proofs.Part.{room, part, Keeps, KeepsEach, part-length, part-next, part-right}
+use Rattle.lists.specs.Chunks.{part, at, each}
+use Rattle.lists.proofs.Part.{room, Keeps, KeepsEach, part-length, part-next, part-right}
 use Rattle.lists.proofs.At.{at-front, at-lent, at-right}
 
 module _ {A : Type 0} (k : ℕ) where

@@ -6,6 +6,7 @@ use Prim.Native.Nat.{ℕ, zero, suc, _+_, _-_, _*_, _≤_, _<_, suc-le-suc}
 use native.Mathlib.Nat.{mul-le-mul-right, suc-mul, zero-mul, zero-add, suc-add, zero-lt-suc, add-comm}
 use native.Mathlib.Omega.{arith}
 use lib.ListN.{length, take, drop, replicate, length-take, length-drop, length-replicate, replicate-append-replicate}
+use Rattle.lists.specs.Chunks.{part}
 use lib.Seq.{take-at, drop-at, take-add, take-take, drop-drop, take-append-le, drop-append-le, take-nil, take-all}
 
 -- chunk n of m lies within them, and so does each of its places
@@ -16,10 +17,6 @@ pub room-in : (k : ℕ) {n m i : ℕ} → n < m → i ≤ k → n * k + i ≤ m 
 room-in k h b = omega (arith, room k h)
 
 module _ {A : Type 0} where
-  -- the k elements from place a
-  abbrev pub part : ℕ → ℕ → List A → List A
-  part a k l = take k (drop a l)
-
   -- f takes k elements to k elements
   abbrev pub Keeps : ℕ → (List A → List A) → Type 0
   Keeps k f = (x : List A) → length x ≡ k → length (f x) ≡ k

@@ -12,8 +12,8 @@ use lib.Dec.{eqb}
 use lib.ListN.{take, drop, replicate, drop-of-length-le}
 use lib.Seq.{drop-drop, take-take}
 use borrow.Author.Tests.{eq-eqb, ne-eqb}
-use Rattle.lists.specs.Chunks.{at, each}
-use Rattle.lists.proofs.Part.{room, part, KeepsEach, part-replicate, part-next, drop-take}
+use Rattle.lists.specs.Chunks.{part, at, each}
+use Rattle.lists.proofs.Part.{room, KeepsEach, part-replicate, part-next, drop-take}
 use Rattle.lists.proofs.At.{at-add, at-front}
 use Rattle.lists.proofs.Each.{each-id}
 

@@ -1,7 +1,8 @@
--- Four ways to make a list or a value from its parts: a table, a part changed, each chunk changed, and turns taken in order.
+-- Ways to make a list or a value from its parts: a table, lists joined, a part taken or changed, each chunk changed, and turns taken in order.
 -- They render no section of the paper: every section's lists are said with them.
 use Prim.Native.Nat.{ℕ, zero, suc}
 use mathlib.Core.List.{List, [], _∷_, _++_}
+use mathlib.Core.Bool.{Bool, false, _||_}
 use lib.ListN.{take, drop}
 
 module _ {A : Type 0} where
@@ -10,9 +11,18 @@ module _ {A : Type 0} where
   tab zero f = []
   tab (suc n) f = f 0 ∷ tab n (λ i. f (suc i))
 
+  -- f 0, then f 1, .. : n lists in a row
+  unfoldable pub joined : ℕ → (ℕ → List A) → List A
+  joined zero f = []
+  joined (suc n) f = f 0 ++ joined n (λ i. f (suc i))
+
+  -- the k elements from place a
+  abbrev pub part : ℕ → ℕ → List A → List A
+  part a k l = take k (drop a l)
+
   -- f on the k elements from place a; all others as they were
   unfoldable pub at : ℕ → ℕ → (List A → List A) → List A → List A
-  at a k f l = take a l ++ (f (take k (drop a l)) ++ drop k (drop a l))
+  at a k f l = take a l ++ (f (part a k l) ++ drop k (drop a l))
 
   -- f i on chunk i, of the first n chunks of k elements each; all others as they were
   unfoldable pub each : ℕ → ℕ → (ℕ → List A → List A) → List A → List A
@@ -23,3 +33,7 @@ module _ {A : Type 0} where
   unfoldable pub turns : ℕ → (ℕ → A → A) → A → A
   turns zero f x = x
   turns (suc n) f x = f n (turns n f x)
+
+-- whether p holds of one of the numbers below n
+unfoldable pub some : ℕ → (ℕ → Bool) → Bool
+some n p = turns n (λ i found. found || p i) false
