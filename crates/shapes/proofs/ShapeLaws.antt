@@ -1,0 +1,87 @@
+-- What a shape inside the limits is known by, and the sizes that follow from it.
+-- Each holds by the tests that make up the limits, one by one.
+use mathlib.Core.Path.{_≡_, refl, sym, _∙_}
+use mathlib.Core.Bool.{Bool, true, false, cond, not, _&&_}
+use Prim.Native.Nat.{ℕ, _*_, _%_, _≤_}
+use native.Mathlib.Nat.{mul-le-mul}
+use native.Mathlib.Omega.{arith}
+use lib.Dec.{eqb, leb}
+use borrow.Author.Tests.{leb-true, eqb-true, not-true, not-false}
+use Rattle.shapes.specs.declared.Shape.{Shape}
+use Rattle.shapes.specs.Shape.{headSize, ofFormat, cellBytes, scaleWords, total, cellTotal, scaleTotal, upTo, limits, within, exact}
+
+pub both : (p q : Bool) → (p && q) ≡ true → (p ≡ true) × (q ≡ true)
+both true q h = (refl, h)
+both false q h = (cc, cc)
+
+-- what a test says of the definition that its call answers
+pub passed : {t u : Bool} → t ≡ u → not t ≡ false → u ≡ true
+passed e h = sym e ∙ not-false _ h
+
+pub failed : {t u : Bool} → t ≡ u → not t ≡ true → u ≡ false
+failed e h = sym e ∙ not-true _ h
+
+-- the limits, as facts
+pub record Limits (s : Shape) : Type 0 where
+  pub format-in : s .format ≤ 3
+  pub layers-in : (1 ≤ s .layers) × (s .layers ≤ 128)
+  pub heads-in : (1 ≤ s .heads) × (s .heads ≤ 64)
+  pub size-in : (1 ≤ headSize s) × (headSize s ≤ 256)
+  pub capacity-in : (1 ≤ s .capacity) × (s .capacity ≤ 4096)
+  pub whole-groups : ofFormat (s .format) 0 0 0 (headSize s % 32) ≡ 0
+
+up-to : (most x : ℕ) → upTo most x ≡ true → (1 ≤ x) × (x ≤ most)
+up-to most x h = let t = both (leb 1 x) (leb x most) h in (leb-true 1 x (t .0), leb-true x most (t .1))
+
+pub limits-facts : (s : Shape) → limits s ≡ true → Limits s
+unfolding limits
+limits-facts s h =
+    let a = both _ _ h in
+    let b = both _ _ (a .1) in
+    let d = both _ _ (b .1) in
+    let e = both _ _ (d .1) in
+    let f = both _ _ (e .1) in
+    record {
+      format-in = leb-true (s .format) 3 (a .0);
+      layers-in = up-to 128 (s .layers) (b .0);
+      heads-in = up-to 64 (s .heads) (d .0);
+      size-in = up-to 256 (headSize s) (e .0);
+      capacity-in = up-to 4096 (s .capacity) (f .0);
+      whole-groups = eqb-true _ 0 (f .1);
+    }
+
+-- a shape inside the limits and the most cells is inside the limits, and a shape's buffers have its two totals
+pub within-limits : (s : Shape) → within s ≡ true → limits s ≡ true
+unfolding within
+within-limits s h = both _ _ h .0
+
+pub exact-sizes : (s : Shape) (cells scales : ℕ) → exact s cells scales ≡ true → (cells ≡ cellTotal s) × (scales ≡ scaleTotal s)
+unfolding exact
+exact-sizes s cells scales h = let t = both _ _ h in (eqb-true cells (cellTotal s) (t .0), eqb-true scales (scaleTotal s) (t .1))
+
+pick : (P : ℕ → Type 0) (t : Bool) {x y : ℕ} → P x → P y → P (cond t x y)
+pick P true px py = px
+pick P false px py = py
+
+-- what holds of each format's case holds of the case that a format picks
+pub of-format : (P : ℕ → Type 0) (format a b d e : ℕ) → P a → P b → P d → P e → P (ofFormat format a b d e)
+unfolding ofFormat
+of-format P format a b d e pa pb pd pe = pick P (eqb format 0) pa (pick P (eqb format 1) pb (pick P (eqb format 2) pd pe))
+
+-- a row has no more than 1,024 cells, and no more than 8 scale words
+pub cell-bytes-most : (s : Shape) → Limits s → cellBytes (s .format) (headSize s) ≤ 1024
+unfolding cellBytes
+cell-bytes-most s h = of-format (λ x. x ≤ 1024) (s .format) _ _ _ _ (omega arith) (omega arith) (omega arith) (omega arith)
+
+pub scale-words-most : (s : Shape) → Limits s → scaleWords (s .format) (headSize s) ≤ 1024
+unfolding scaleWords
+scale-words-most s h = of-format (λ x. x ≤ 1024) (s .format) _ _ _ _ (omega arith) (omega arith) (omega arith) (omega arith)
+
+-- no product on the way to a total is large
+pub total-small : (s : Shape) (b : ℕ) → Limits s → b ≤ 1024
+    → (2 * s .layers * s .heads ≤ 16384) × (2 * s .layers * s .heads * s .capacity ≤ 67108864) × (2 * s .layers * s .heads * s .capacity * b ≤ 68719476736)
+total-small s b h w =
+    let x : 2 * s .layers ≤ 256 = omega arith in
+    let y : 2 * s .layers * s .heads ≤ 16384 = mul-le-mul x (h .heads-in .1) in
+    let z : 2 * s .layers * s .heads * s .capacity ≤ 67108864 = mul-le-mul y (h .capacity-in .1) in
+    (y, z, mul-le-mul z w)

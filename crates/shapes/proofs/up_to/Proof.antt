@@ -1,0 +1,13 @@
+-- Each branch knows how the first test ended.
+use borrow.Author.Tests.{lt-leb, le-leb}
+use Rattle.shapes.proofs.up_to.Statement.{statement}
+use Rattle.shapes.proofs.up_to.Tie as tie
+
+returns : tie.Need-returns
+returns c = rw (lt-leb 1 (c .before .args .x) (c .if1 .taken))
+
+returns-2 : tie.Need-returns-2
+returns-2 c = rw (le-leb 1 (c .before .args .x) (c .if1 .left))
+
+pub up-to-spec : {M : Type 1} → statement M
+up-to-spec = tie.close (tie.spec returns returns-2)

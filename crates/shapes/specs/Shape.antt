@@ -1,0 +1,59 @@
+-- A shape, its limits and the room that it needs: the paper's section Shape and room, and replies 1 and 2 of its section Replies.
+use Prim.Native.Nat.{ℕ, _*_, _/_, _%_}
+use mathlib.Core.Bool.{Bool, cond, not, _&&_}
+use mathlib.Core.List.{List, [], _∷_}
+use lib.Dec.{eqb, leb}
+use Rattle.replies.specs.Outcome.{Refusal, _when_}
+use Rattle.shapes.specs.declared.Shape.{Shape}
+
+-- D: the numbers of a head
+abbrev pub headSize : Shape → ℕ
+headSize s = s .«head_size»
+
+-- what F32, BF16, INT8 and INT4 have, by the number of the format
+unfoldable pub ofFormat : {A : Type 0} → ℕ → A → A → A → A → A
+ofFormat format f32 bf16 int8 int4 = cond (eqb format 0) f32 (cond (eqb format 1) bf16 (cond (eqb format 2) int8 int4))
+
+-- B: the cell bytes of one position and head
+unfoldable pub cellBytes : ℕ → ℕ → ℕ
+cellBytes format d = ofFormat format (4 * d) (2 * d) d (d / 2)
+
+-- S: the scale words of one position and head
+unfoldable pub scaleWords : ℕ → ℕ → ℕ
+scaleWords format d = ofFormat format 0 0 1 (d / 32)
+
+-- all elements of a buffer: b for each position, head, side and layer
+unfoldable pub total : ℕ → Shape → ℕ
+total b s = 2 * s .layers * s .heads * s .capacity * b
+
+abbrev pub cellTotal : Shape → ℕ
+cellTotal s = total (cellBytes (s .format) (headSize s)) s
+
+abbrev pub scaleTotal : Shape → ℕ
+scaleTotal s = total (scaleWords (s .format) (headSize s)) s
+
+-- 1 to most
+abbrev pub upTo : ℕ → ℕ → Bool
+upTo most x = leb 1 x && leb x most
+
+-- the limits of each field; INT4 wants no number outside a group of 32
+unfoldable pub limits : Shape → Bool
+limits s =
+    leb (s .format) 3
+    && (upTo 128 (s .layers)
+    && (upTo 64 (s .heads)
+    && (upTo 256 (headSize s)
+    && (upTo 4096 (s .capacity)
+    && eqb (ofFormat (s .format) 0 0 0 (headSize s % 32)) 0))))
+
+-- those, and the most cells
+unfoldable pub within : Shape → Bool
+within s = limits s && leb (cellTotal s) 1073741824
+
+-- the buffers have exactly the lengths that the shape needs
+unfoldable pub exact : Shape → ℕ → ℕ → Bool
+exact s cells scales = eqb cells (cellTotal s) && eqb scales (scaleTotal s)
+
+-- the first two refusals
+abbrev pub roomRefusals : Shape → ℕ → ℕ → List Refusal
+roomRefusals s cells scales = (1 when not (within s)) ∷ (2 when not (exact s cells scales)) ∷ []
