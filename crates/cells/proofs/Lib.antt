@@ -1,0 +1,9 @@
+pub mod ChunkLaws
+pub mod LayerLaws
+pub mod LentLaws
+pub mod PlaceLaws
+pub mod ReplyLaws
+pub mod RowLaws
+pub mod RunLaws
+pub mod SizeLaws
+mod Writes

@@ -1,0 +1,93 @@
+-- What reply 0 says of the arguments of each call: the conditions that the functions inside ask for.
+-- Each holds since no refusal of the call applies, and each refusal is a test that then ended the other way.
+use mathlib.Core.Path.{_≡_, refl, sym, _∙_}
+use mathlib.Core.Bool.{true, false}
+use mathlib.Core.List.{List, _++_}
+use Prim.Native.Nat.{ℕ, _+_, _-_, _≤_, _<_}
+use native.Mathlib.Omega.{arith}
+use lib.Dec.{leb}
+use borrow.Author.Tests.{le-leb, lt-leb, ltb-true, leb-true, eqb-true, not-false}
+use Rattle.replies.specs.Outcome.{Refusal, lowest, outcome}
+use Rattle.replies.proofs.Refusals.{None, lowest-none, passed-before, refused-before, outcome-done, outcome-refused}
+use Rattle.shapes.specs.declared.Shape.{Shape}
+use Rattle.shapes.specs.Shape.{headSize, roomRefusals, limits, within, exact}
+use Rattle.shapes.proofs.ShapeLaws.{both, within-limits, exact-sizes}
+use Rattle.cells.specs.Calls.{appendRefusals, removeRefusals, readRefusals, overfull}
+use Rattle.cells.specs.Fits.{InRoom, RowsIn, RowIn}
+
+-- the two tests for room after `held` positions, and both passed
+pub held-over : {held cap : ℕ} → cap < held → (m : ℕ) → leb (held + m) cap ≡ false
+held-over {held} {cap} h m = lt-leb (held + m) cap (omega arith)
+
+pub new-over : {held cap m : ℕ} → held ≤ cap → cap - held < m → leb (held + m) cap ≡ false
+new-over {held} {cap} {m} h w = lt-leb (held + m) cap (omega arith)
+
+pub new-within : {held cap m : ℕ} → held ≤ cap → m ≤ cap - held → leb (held + m) cap ≡ true
+new-within {held} {cap} {m} h w = le-leb (held + m) cap (omega arith)
+
+-- what a call leaves whose reply r was tested by its number n
+module _ (a : List Refusal) {r n : ℕ} (e : r ≡ lowest a) (q : n ≡ r) where
+  pub nothing-refused : n ≡ 0 → lowest a ≡ 0
+  nothing-refused z = sym e ∙ sym q ∙ z
+
+  pub call-done : {A : Type 0} {new left : A} (old : A) → n ≡ 0 → left ≡ new → record { reply = r; left = left } ≡ outcome a new old
+  call-done {new = new} old z w = rw (outcome-done a new old (nothing-refused z), w, sym q ∙ z)
+
+  pub call-refused : {A : Type 0} {old : A} (new : A) → (n ≡ 0 → ⊥) → record { reply = r; left = old } ≡ outcome a new old
+  call-refused {old = old} new h = rw (outcome-refused a new old (λ z. h (q ∙ e ∙ z)), e)
+
+module _ (s : Shape) (cells scales : ℕ) where
+  -- a reply of the room decides before the refusals of the call, and hands on to them
+  pub room-refused : (b : List Refusal) {r n : ℕ} → r ≡ lowest (roomRefusals s cells scales) → n ≡ r → (n ≡ 0 → ⊥)
+      → r ≡ lowest (roomRefusals s cells scales ++ b)
+  room-refused b e q h = e ∙ sym (refused-before (roomRefusals s cells scales) b (λ z. h (q ∙ e ∙ z)))
+
+  pub past-room : (b : List Refusal) {x : ℕ} → lowest (roomRefusals s cells scales) ≡ 0 → x ≡ lowest b
+      → x ≡ lowest (roomRefusals s cells scales ++ b)
+  past-room b h e = e ∙ sym (passed-before (roomRefusals s cells scales) b (lowest-none 0 (roomRefusals s cells scales) refl h))
+
+  pub room-limits : lowest (roomRefusals s cells scales) ≡ 0 → limits s ≡ true
+  room-limits h = within-limits s (not-false (within s) (lowest-none 0 (roomRefusals s cells scales) refl h .0))
+
+  -- the layer's place in both buffers
+  in-room : (l : ℕ) → None (roomRefusals s cells scales ++ removeRefusals s l) → InRoom s l cells scales
+  in-room l h =
+      let e = exact-sizes s cells scales (not-false (exact s cells scales) (h .1 .0)) in
+      record {
+        in-limits = within-limits s (not-false (within s) (h .0));
+        layer = ltb-true l (s .layers) (not-false _ (h .1 .1 .0));
+        cell-size = e .0;
+        scale-size = e .1;
+      }
+
+  pub append-fits : (l held keys values : ℕ) → lowest (roomRefusals s cells scales ++ appendRefusals s l held keys values) ≡ 0
+      → InRoom s l cells scales × RowsIn s held keys values
+  append-fits l held keys values z =
+      let h = lowest-none 0 (roomRefusals s cells scales ++ appendRefusals s l held keys values) refl z in
+      let w = both _ _ (not-false _ (h .1 .1 .1 .0)) in (
+        in-room l (h .0, (h .1 .0, (h .1 .1 .0, tt))),
+        record { whole = eqb-true _ 0 (w .0); alike = eqb-true values keys (w .1); span = leb-true _ (s .capacity) (not-false _ (h .1 .1 .1 .1 .0)) },
+      )
+
+  pub remove-fits : (l held : ℕ) → lowest (roomRefusals s cells scales ++ (removeRefusals s l ++ overfull s held)) ≡ 0
+      → InRoom s l cells scales × (held ≤ s .capacity)
+  remove-fits l held z =
+      let h = lowest-none 0 (roomRefusals s cells scales ++ (removeRefusals s l ++ overfull s held)) refl z in
+      (in-room l (h .0, (h .1 .0, (h .1 .1 .0, tt))), leb-true held (s .capacity) (not-false _ (h .1 .1 .1 .0)))
+
+  pub read-fits : (l held side h p out : ℕ)
+      → lowest (roomRefusals s cells scales ++ (readRefusals s l held side h p out ++ overfull s held)) ≡ 0
+      → InRoom s l cells scales × RowIn s side h p out
+  read-fits l held side h p out z =
+      let t = lowest-none 0 (roomRefusals s cells scales ++ (readRefusals s l held side h p out ++ overfull s held)) refl z in
+      let w = both _ _ (not-false _ (t .1 .1 .1 .0)) in
+      let q = ltb-true p held (not-false _ (t .1 .1 .1 .1 .1 .0)) in
+      let m = leb-true held (s .capacity) (not-false _ (t .1 .1 .1 .1 .1 .1 .0)) in (
+        in-room l (t .0, (t .1 .0, (t .1 .1 .0, tt))),
+        record {
+          side-in = ltb-true side 2 (w .1);
+          head-in = ltb-true h (s .heads) (w .0);
+          position-in = omega arith;
+          out-size = eqb-true out (headSize s) (not-false _ (t .1 .1 .1 .1 .0));
+        },
+      )

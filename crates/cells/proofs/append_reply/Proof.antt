@@ -1,0 +1,128 @@
+-- Each return knows how the tests before it ended, and past the room's test a position has a number.
+use mathlib.Core.Path.{_≡_, sym, _∙_}
+use mathlib.Core.List.{_++_}
+use Prim.Native.Nat.{ℕ}
+use native.Mathlib.Omega.{arith}
+use borrow.Author.Needs.{needs}
+use borrow.Author.Tests.{lt-ltb, le-ltb, eq-eqb, ne-eqb}
+use Rattle.replies.specs.Outcome.{lowest}
+use Rattle.shapes.specs.Shape.{roomRefusals}
+use Rattle.cells.specs.Calls.{appendRefusals}
+use Rattle.cells.proofs.SizeLaws.{width-in}
+use Rattle.cells.proofs.ReplyLaws.{held-over, new-over, new-within, room-refused, past-room, room-limits}
+use Rattle.cells.proofs.append_reply.Statement.{statement}
+use Rattle.cells.proofs.append_reply.Tie as tie
+
+room-reply-requires : tie.Need-room-reply-requires
+room-reply-requires c κs = search needs
+
+number-requires : tie.Need-number-requires
+number-requires c κs = search needs
+
+returns : tie.Need-returns
+returns c = room-refused _ _ _ _ (c .before .before .room-reply .ensures) (c .before .number .ensures) (c .if1 .taken)
+
+-- past the room's test, no refusal of the room applies
+passed : (c : tie.Else1) → let a = c .before .before .before .args in lowest (roomRefusals (a .shape) (a .cells) (a .scales)) ≡ 0
+passed c = sym (c .before .before .room-reply .ensures) ∙ sym (c .before .number .ensures) ∙ c .if1 .left
+
+-- and the lowest refusal is the call's own
+past : (c : tie.Else1) {x : ℕ}
+    → let a = c .before .before .before .args in
+    x ≡ lowest (appendRefusals (a .shape) (a .layer) (a .held) (a .keys) (a .values))
+    → x ≡ lowest (roomRefusals (a .shape) (a .cells) (a .scales) ++ appendRefusals (a .shape) (a .layer) (a .held) (a .keys) (a .values))
+past c e = past-room _ _ _ _ (passed c) e
+
+returns-2 : tie.Need-returns-2
+unfolding lowest
+returns-2 c = past (c .before .before) (rw (le-ltb _ _ (c .if2 .taken)))
+
+cast-width : tie.Need-cast-width
+cast-width c = search needs
+
+cast-width-2 : tie.Need-cast-width-2
+cast-width-2 c = search needs
+
+mul-width : tie.Need-mul-width
+mul-width c = omega (arith, width-in _ (room-limits _ _ _ (passed (c .before .before .before .before))))
+
+rem-if3 : tie.Need-rem-if3
+rem-if3 c = omega (arith, width-in _ (room-limits _ _ _ (passed (c .before .before .before .before))))
+
+returns-3 : tie.Need-returns-3
+unfolding lowest
+returns-3 c =
+    past (c .before .before .before .before .before)
+    (rw (
+      lt-ltb _ _ (c .before .before .before .if2 .left),
+      ne-eqb _ 0 (c .if3 .taken),
+    ))
+
+returns-4 : tie.Need-returns-4
+unfolding lowest
+returns-4 c =
+    past (c .before .before .before .before .before .before)
+    (rw (
+      lt-ltb _ _ (c .before .before .before .before .if2 .left),
+      eq-eqb _ 0 (c .before .if3 .left),
+      ne-eqb _ _ (c .if4 .taken),
+    ))
+
+returns-5 : tie.Need-returns-5
+unfolding lowest
+returns-5 c =
+    past (c .before .before .before .before .before .before .before .before)
+    (rw (
+      lt-ltb _ _ (c .before .before .before .before .before .before .if2 .left),
+      eq-eqb _ 0 (c .before .before .before .if3 .left),
+      eq-eqb _ _ (c .before .before .if4 .left),
+      held-over (c .if5 .taken),
+    ))
+
+cast-if6 : tie.Need-cast-if6
+cast-if6 c = search needs
+
+div-if6 : tie.Need-div-if6
+div-if6 c = omega (arith, width-in _ (room-limits _ _ _ (passed (c .before .before .before .before .before .before .before .before .before))))
+
+returns-6 : tie.Need-returns-6
+unfolding lowest
+returns-6 c =
+    past (c .before .before .before .before .before .before .before .before .before .before)
+    (rw (
+      lt-ltb _ _ (c .before .before .before .before .before .before .before .before .if2 .left),
+      eq-eqb _ 0 (c .before .before .before .before .before .if3 .left),
+      eq-eqb _ _ (c .before .before .before .before .if4 .left),
+      new-over (c .before .before .if5 .left) (c .if6 .taken),
+    ))
+
+returns-7 : tie.Need-returns-7
+unfolding lowest
+returns-7 c =
+    past (c .before .before .before .before .before .before .before .before .before .before)
+    (rw (
+      lt-ltb _ _ (c .before .before .before .before .before .before .before .before .if2 .left),
+      eq-eqb _ 0 (c .before .before .before .before .before .if3 .left),
+      eq-eqb _ _ (c .before .before .before .before .if4 .left),
+      new-within (c .before .before .if5 .left) (c .if6 .left),
+    ))
+
+pub append-reply-spec : {M : Type 1} → statement M
+append-reply-spec =
+    tie.close
+    (tie.spec
+    room-reply-requires
+    number-requires
+    returns
+    returns-2
+    cast-width
+    cast-width-2
+    mul-width
+    rem-if3
+    returns-3
+    returns-4
+    returns-5
+    cast-if6
+    div-if6
+    returns-6
+    returns-7)

@@ -1,0 +1,118 @@
+-- Rows appended, removed and read, where the caller says how many positions a layer has: the paper's section Calls, with replies 4, 5, 7, 8 and 9.
+use Prim.Native.Nat.{ℕ, _+_, _-_, _*_, _/_, _%_}
+use mathlib.Core.Bool.{Bool, cond, not, _&&_}
+use mathlib.Core.List.{List, [], _∷_, _++_}
+use lib.Dec.{eqb, ltb, leb}
+use lib.ListN.{length}
+use Rattle.lists.specs.Chunks.{part}
+use Rattle.replies.specs.Outcome.{Refusal, _when_, Outcome, outcome}
+use Rattle.shapes.specs.Shape.{headSize, cellBytes, scaleWords, roomRefusals}
+use Rattle.shapes.specs.declared.Shape.{Shape}
+use Rattle.cells.specs.Row.{rowCells, rowScales, rowNumbers}
+use Rattle.cells.specs.Layer.{written, zeros, place}
+
+-- B and S of a shape
+abbrev pub bytesOf : Shape → ℕ
+bytesOf s = cellBytes (s .format) (headSize s)
+
+abbrev pub wordsOf : Shape → ℕ
+wordsOf s = scaleWords (s .format) (headSize s)
+
+pub record Buffers : Type 0 where
+  pub cells : List ℕ
+  pub scales : List ℕ
+
+abbrev pub buffers : List ℕ → List ℕ → Buffers
+buffers c s = record { cells = c; scales = s }
+
+-- the numbers of one position, and the positions that so many numbers are
+abbrev pub width : Shape → ℕ
+width s = s .heads * headSize s
+
+abbrev pub positions : Shape → ℕ → ℕ
+positions s numbers = numbers / width s
+
+-- position first, then head: the numbers of head h in position i
+abbrev pub headNumbers : Shape → List ℕ → ℕ → ℕ → List ℕ
+headNumbers s numbers h i = part (i * width s + h * headSize s) (headSize s) numbers
+
+-- side 0 is the keys', side 1 the values'
+abbrev pub sideOf : List ℕ → List ℕ → ℕ → List ℕ
+sideOf keys values side = cond (eqb side 0) keys values
+
+-- what is written for a side, a head and a position
+abbrev pub cellRow : Shape → List ℕ → ℕ → ℕ → List ℕ
+cellRow s numbers h i = rowCells (s .format) (headNumbers s numbers h i)
+
+abbrev pub scaleRow : Shape → List ℕ → ℕ → ℕ → List ℕ
+scaleRow s numbers h i = rowScales (s .format) (headNumbers s numbers h i)
+
+-- keys and values appended to layer l, which has `held` positions
+unfoldable pub appended : Shape → ℕ → ℕ → List ℕ → List ℕ → Buffers → Buffers
+appended s l held keys values b =
+    let n = positions s (length keys) in
+    buffers
+    (written (bytesOf s) s l held n (λ side. cellRow s (sideOf keys values side)) (b .cells))
+    (written (wordsOf s) s l held n (λ side. scaleRow s (sideOf keys values side)) (b .scales))
+
+-- positions t to held - 1 of layer l removed: none where t is not below held
+unfoldable pub removed : Shape → ℕ → ℕ → ℕ → Buffers → Buffers
+removed s l held t b =
+    buffers
+    (written (bytesOf s) s l t (held - t) (zeros (bytesOf s)) (b .cells))
+    (written (wordsOf s) s l t (held - t) (zeros (wordsOf s)) (b .scales))
+
+-- the numbers of layer l, a side, head h, position p
+unfoldable pub rowAt : Shape → ℕ → ℕ → ℕ → ℕ → Buffers → List ℕ
+rowAt s l side h p b =
+    rowNumbers (s .format) (headSize s)
+    (part (place (bytesOf s) s l side h p) (bytesOf s) (b .cells))
+    (part (place (wordsOf s) s l side h p) (wordsOf s) (b .scales))
+
+-- the conditions of replies 4, 5, 7 and 9, on the lengths of what is lent
+abbrev pub hasLayer : Shape → ℕ → Bool
+hasLayer s l = ltb l (s .layers)
+
+abbrev pub hasHead : Shape → ℕ → ℕ → Bool
+hasHead s side h = ltb h (s .heads) && ltb side 2
+
+abbrev pub wholeRows : Shape → ℕ → ℕ → Bool
+wholeRows s keys values = eqb (keys % width s) 0 && eqb values keys
+
+abbrev pub fitsAfter : Shape → ℕ → ℕ → Bool
+fitsAfter s held keys = leb (held + positions s keys) (s .capacity)
+
+-- the refusals of each call past those of the room
+abbrev pub appendRefusals : Shape → ℕ → ℕ → ℕ → ℕ → List Refusal
+appendRefusals s l held keys values =
+    (4 when not (hasLayer s l)) ∷ (7 when not (wholeRows s keys values)) ∷ (9 when not (fitsAfter s held keys)) ∷ []
+
+abbrev pub removeRefusals : Shape → ℕ → List Refusal
+removeRefusals s l = (4 when not (hasLayer s l)) ∷ []
+
+abbrev pub readRefusals : Shape → ℕ → ℕ → ℕ → ℕ → ℕ → ℕ → List Refusal
+readRefusals s l held side h p out =
+    (4 when not (hasLayer s l))
+    ∷ (5 when not (hasHead s side h))
+    ∷ (7 when not (eqb out (headSize s)))
+    ∷ (8 when not (ltb p held))
+    ∷ []
+
+-- 9 where a layer is said to have more positions than the capacity
+abbrev pub overfull : Shape → ℕ → List Refusal
+overfull s held = (9 when not (leb held (s .capacity))) ∷ []
+
+abbrev pub room : Shape → Buffers → List Refusal
+room s b = roomRefusals s (length (b .cells)) (length (b .scales))
+
+-- each call
+unfoldable pub appendRowsOf : Shape → ℕ → ℕ → List ℕ → List ℕ → Buffers → Outcome Buffers
+appendRowsOf s l held keys values b =
+    outcome (room s b ++ appendRefusals s l held (length keys) (length values)) (appended s l held keys values b) b
+
+unfoldable pub removeRowsOf : Shape → ℕ → ℕ → ℕ → Buffers → Outcome Buffers
+removeRowsOf s l held t b = outcome (room s b ++ (removeRefusals s l ++ overfull s held)) (removed s l held t b) b
+
+unfoldable pub readRowOf : Shape → ℕ → ℕ → ℕ → ℕ → ℕ → Buffers → List ℕ → Outcome (List ℕ)
+readRowOf s l held side h p b out =
+    outcome (room s b ++ (readRefusals s l held side h p (length out) ++ overfull s held)) (rowAt s l side h p b) out

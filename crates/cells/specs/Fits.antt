@@ -1,0 +1,51 @@
+-- What the functions inside ask of their arguments: lengths that fit the shape. The calls test for it.
+use mathlib.Core.Path.{_≡_}
+use mathlib.Core.Bool.{true}
+use Prim.Native.Nat.{ℕ, _+_, _*_, _%_, _≤_, _<_}
+use Rattle.shapes.specs.Shape.{headSize, ofFormat, cellBytes, scaleWords, cellTotal, scaleTotal, limits}
+use Rattle.shapes.specs.declared.Shape.{Shape}
+use Rattle.cells.specs.Calls.{bytesOf, wordsOf, width, positions}
+
+-- d numbers with their cells and scale words
+pub record RowFits (format d cells scales : ℕ) : Type 0 where
+  pub known : format ≤ 3
+  pub small : d ≤ 256
+  pub whole : ofFormat format 0 0 0 (d % 32) ≡ 0
+  pub cell-bytes : cells ≡ cellBytes format d
+  pub scale-words : scales ≡ scaleWords format d
+
+-- positions p to p + n - 1 in parts of both buffers, of the size that `size` gives for b elements a row
+pub record Fits (size : ℕ → Shape → ℕ) (s : Shape) (p n cells scales : ℕ) : Type 0 where
+  pub in-limits : limits s ≡ true
+  pub span : p + n ≤ s .capacity
+  pub cell-size : cells ≡ size (bytesOf s) s
+  pub scale-size : scales ≡ size (wordsOf s) s
+
+-- head h of n positions: the numbers of all heads, and the rows of this one
+pub record RowsFit (s : Shape) (h n numbers cells scales : ℕ) : Type 0 where
+  pub in-limits : limits s ≡ true
+  pub head : h < s .heads
+  pub span : n ≤ s .capacity
+  pub numbers-size : numbers ≡ n * width s
+  pub cell-size : cells ≡ n * bytesOf s
+  pub scale-size : scales ≡ n * wordsOf s
+
+-- a layer in whole buffers
+pub record InRoom (s : Shape) (l cells scales : ℕ) : Type 0 where
+  pub in-limits : limits s ≡ true
+  pub layer : l < s .layers
+  pub cell-size : cells ≡ cellTotal s
+  pub scale-size : scales ≡ scaleTotal s
+
+-- keys and values of whole positions, for which a layer with `held` positions has room
+pub record RowsIn (s : Shape) (held keys values : ℕ) : Type 0 where
+  pub whole : keys % width s ≡ 0
+  pub alike : values ≡ keys
+  pub span : held + positions s keys ≤ s .capacity
+
+-- one row, and an output for it
+pub record RowIn (s : Shape) (side h p out : ℕ) : Type 0 where
+  pub side-in : side < 2
+  pub head-in : h < s .heads
+  pub position-in : p < s .capacity
+  pub out-size : out ≡ headSize s

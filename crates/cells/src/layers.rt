@@ -1,0 +1,183 @@
+// Rows in a layer of both buffers: written from numbers, or zeroed.
+use crate::rows::put_row;
+use shapes::Shape;
+use shapes::cell_bytes;
+use shapes::scale_words;
+ghost use mathlib.Core.Path.{_≡_};
+ghost use Prim.Native.Nat.{_*_, _<_};
+ghost use lib.ListN.{length, replicate};
+ghost use Rattle.lists.specs.Chunks.{joined};
+ghost use Rattle.cells.specs.Layer.{blockSize, sideSize, layerSize, put, putSide, putLayer, zeros};
+ghost use Rattle.cells.specs.Calls.{bytesOf, wordsOf, width, sideOf, cellRow, scaleRow};
+ghost use Rattle.cells.specs.Fits.{Fits, RowsFit};
+
+// Keys and values into positions `p` to `p + n - 1` of a layer.
+pub(crate) fn put_layer(
+    shape: Shape,
+    p: usize,
+    n: usize,
+    keys: &[u32],
+    values: &[u32],
+    cells: &mut [u8],
+    scales: &mut [u32],
+)
+    requires { ⌜ Fits layerSize shape p n (length (now cells)) (length (now scales)) ⌝ }
+    requires { ⌜ (length (now keys) ≡ n * width shape) × (length (now values) ≡ n * width shape) ⌝ }
+    ensures cells { λ _. ⌜ now (cells .exit) ≡ putLayer (bytesOf shape) shape p n (λ side. cellRow shape (sideOf (now (keys .entry)) (now (values .entry)) side)) (now (cells .entry)) ⌝ }
+    ensures scales { λ _. ⌜ now (scales .exit) ≡ putLayer (wordsOf shape) shape p n (λ side. scaleRow shape (sideOf (now (keys .entry)) (now (values .entry)) side)) (now (scales .entry)) ⌝ }
+{
+    let c = shape.heads as usize
+        * (shape.capacity as usize * cell_bytes(shape.format, shape.head_size));
+    let w = shape.heads as usize
+        * (shape.capacity as usize * scale_words(shape.format, shape.head_size));
+    put_side(shape, p, n, keys, &mut cells[0..c], &mut scales[0..w]);
+    put_side(
+        shape,
+        p,
+        n,
+        values,
+        &mut cells[c..c + c],
+        &mut scales[w..w + w],
+    );
+}
+
+// Zeros into positions `p` to `p + n - 1` of a layer.
+pub(crate) fn clear_layer(shape: Shape, p: usize, n: usize, cells: &mut [u8], scales: &mut [u32])
+    requires { ⌜ Fits layerSize shape p n (length (now cells)) (length (now scales)) ⌝ }
+    ensures cells { λ _. ⌜ now (cells .exit) ≡ putLayer (bytesOf shape) shape p n (zeros (bytesOf shape)) (now (cells .entry)) ⌝ }
+    ensures scales { λ _. ⌜ now (scales .exit) ≡ putLayer (wordsOf shape) shape p n (zeros (wordsOf shape)) (now (scales .entry)) ⌝ }
+{
+    let c = shape.heads as usize
+        * (shape.capacity as usize * cell_bytes(shape.format, shape.head_size));
+    let w = shape.heads as usize
+        * (shape.capacity as usize * scale_words(shape.format, shape.head_size));
+    clear_side(shape, p, n, &mut cells[0..c], &mut scales[0..w]);
+    clear_side(shape, p, n, &mut cells[c..c + c], &mut scales[w..w + w]);
+}
+
+fn put_side(shape: Shape, p: usize, n: usize, numbers: &[u32], cells: &mut [u8], scales: &mut [u32])
+    requires { ⌜ Fits sideSize shape p n (length (now cells)) (length (now scales)) ⌝ }
+    requires { ⌜ length (now numbers) ≡ n * width shape ⌝ }
+    ensures cells { λ _. ⌜ now (cells .exit) ≡ putSide (bytesOf shape) shape p n (cellRow shape (now (numbers .entry))) (now (cells .entry)) ⌝ }
+    ensures scales { λ _. ⌜ now (scales .exit) ≡ putSide (wordsOf shape) shape p n (scaleRow shape (now (numbers .entry))) (now (scales .entry)) ⌝ }
+{
+    let c = shape.capacity as usize * cell_bytes(shape.format, shape.head_size);
+    let w = shape.capacity as usize * scale_words(shape.format, shape.head_size);
+    let mut h = 0;
+    while h < shape.heads as usize {
+        let a = h * c;
+        let b = h * w;
+        put_block(
+            shape,
+            h,
+            p,
+            n,
+            numbers,
+            &mut cells[a..a + c],
+            &mut scales[b..b + w],
+        );
+        h += 1;
+    }
+}
+
+fn clear_side(shape: Shape, p: usize, n: usize, cells: &mut [u8], scales: &mut [u32])
+    requires { ⌜ Fits sideSize shape p n (length (now cells)) (length (now scales)) ⌝ }
+    ensures cells { λ _. ⌜ now (cells .exit) ≡ putSide (bytesOf shape) shape p n (zeros (bytesOf shape) 0) (now (cells .entry)) ⌝ }
+    ensures scales { λ _. ⌜ now (scales .exit) ≡ putSide (wordsOf shape) shape p n (zeros (wordsOf shape) 0) (now (scales .entry)) ⌝ }
+{
+    let c = shape.capacity as usize * cell_bytes(shape.format, shape.head_size);
+    let w = shape.capacity as usize * scale_words(shape.format, shape.head_size);
+    let mut h = 0;
+    while h < shape.heads as usize {
+        let a = h * c;
+        let b = h * w;
+        clear_block(shape, p, n, &mut cells[a..a + c], &mut scales[b..b + w]);
+        h += 1;
+    }
+}
+
+fn put_block(
+    shape: Shape,
+    h: usize,
+    p: usize,
+    n: usize,
+    numbers: &[u32],
+    cells: &mut [u8],
+    scales: &mut [u32],
+)
+    requires { ⌜ Fits blockSize shape p n (length (now cells)) (length (now scales)) ⌝ }
+    requires { ⌜ (h < shape .heads) × (length (now numbers) ≡ n * width shape) ⌝ }
+    ensures cells { λ _. ⌜ now (cells .exit) ≡ put (bytesOf shape) p n (cellRow shape (now (numbers .entry)) h) (now (cells .entry)) ⌝ }
+    ensures scales { λ _. ⌜ now (scales .exit) ≡ put (wordsOf shape) p n (scaleRow shape (now (numbers .entry)) h) (now (scales .entry)) ⌝ }
+{
+    let c = cell_bytes(shape.format, shape.head_size);
+    let w = scale_words(shape.format, shape.head_size);
+    let a = p * c;
+    let b = p * w;
+    put_rows(
+        shape,
+        h,
+        n,
+        numbers,
+        &mut cells[a..a + n * c],
+        &mut scales[b..b + n * w],
+    );
+}
+
+fn clear_block(shape: Shape, p: usize, n: usize, cells: &mut [u8], scales: &mut [u32])
+    requires { ⌜ Fits blockSize shape p n (length (now cells)) (length (now scales)) ⌝ }
+    ensures cells { λ _. ⌜ now (cells .exit) ≡ put (bytesOf shape) p n (zeros (bytesOf shape) 0 0) (now (cells .entry)) ⌝ }
+    ensures scales { λ _. ⌜ now (scales .exit) ≡ put (wordsOf shape) p n (zeros (wordsOf shape) 0 0) (now (scales .entry)) ⌝ }
+{
+    let c = cell_bytes(shape.format, shape.head_size);
+    let w = scale_words(shape.format, shape.head_size);
+    let a = p * c;
+    let b = p * w;
+    zero_cells(&mut cells[a..a + n * c]);
+    zero_words(&mut scales[b..b + n * w]);
+}
+
+// Head `h` of `n` positions, row after row.
+fn put_rows(shape: Shape, h: usize, n: usize, numbers: &[u32], cells: &mut [u8], scales: &mut [u32])
+    requires { ⌜ RowsFit shape h n (length (now numbers)) (length (now cells)) (length (now scales)) ⌝ }
+    ensures cells { λ _. ⌜ now (cells .exit) ≡ joined n (cellRow shape (now (numbers .entry)) h) ⌝ }
+    ensures scales { λ _. ⌜ now (scales .exit) ≡ joined n (scaleRow shape (now (numbers .entry)) h) ⌝ }
+{
+    let d = shape.head_size as usize;
+    let c = cell_bytes(shape.format, shape.head_size);
+    let w = scale_words(shape.format, shape.head_size);
+    let width = shape.heads as usize * d;
+    let mut i = 0;
+    while i < n {
+        let from = i * width + h * d;
+        let a = i * c;
+        let b = i * w;
+        put_row(
+            shape.format,
+            &numbers[from..from + d],
+            &mut cells[a..a + c],
+            &mut scales[b..b + w],
+        );
+        i += 1;
+    }
+}
+
+pub fn zero_cells(cells: &mut [u8])
+    ensures { λ _. ⌜ now (cells .exit) ≡ replicate (length (now (cells .entry))) 0 ⌝ }
+{
+    let mut i = 0;
+    while i < cells.len() {
+        cells[i] = 0;
+        i += 1;
+    }
+}
+
+pub fn zero_words(words: &mut [u32])
+    ensures { λ _. ⌜ now (words .exit) ≡ replicate (length (now (words .entry))) 0 ⌝ }
+{
+    let mut i = 0;
+    while i < words.len() {
+        words[i] = 0;
+        i += 1;
+    }
+}
