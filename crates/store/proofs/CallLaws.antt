@@ -1,0 +1,104 @@
+-- Each call by way of the rows' own call: once the record and the room are good, it is refused as that one is and done as that one is.
+use mathlib.Core.Path.{_≡_, refl, sym, _∙_}
+use mathlib.Core.Bool.{Bool, true, false, not}
+use mathlib.Core.List.{List, [], _∷_, _++_}
+use Prim.Native.Nat.{ℕ, _+_, _<_, min}
+use native.Mathlib.Omega.{arith}
+use lib.Dec.{eqb, ltb}
+use lib.ListN.{length, replicate}
+use borrow.Author.Tests.{ltb-true, le-leb, leb-true, not-false}
+use Rattle.replies.specs.Outcome.{Refusal, _when_, lowest}
+use Rattle.replies.proofs.Refusals.{lowest-none, passed-before, passed-after, refused-within, done-within, given-number, outcome-same, outcome-done}
+use Rattle.shapes.specs.Shape.{headSize, cellTotal, scaleTotal}
+use Rattle.shapes.specs.declared.Shape.{Shape}
+use Rattle.cells.specs.Calls.{Buffers, buffers, positions, room, hasLayer, hasHead, appendRefusals, removeRefusals, overfull, appendRowsOf, removeRowsOf, readRowOf}
+use Rattle.store.specs.declared.Record.{Record}
+use Rattle.store.specs.Record.{lengthOf, newRecord, withLength, Grows}
+use Rattle.store.specs.Calls.{store, empty, noShape, storeRefusals, openOf, appendOf, truncateOf, readOf}
+use Rattle.store.proofs.StoreLaws.{sound-store, sound-limits, room-passed, room-sizes, held-in}
+
+-- opening: room that is not refused has the lengths of the zeros
+pub open-done : (s : Shape) (b : Buffers) {n : ℕ} {r : Record} {cells scales : List ℕ} → lowest (room s b) ≡ 0 → n ≡ 0 → r ≡ newRecord s
+    → cells ≡ replicate (length (b .cells)) 0 → scales ≡ replicate (length (b .scales)) 0
+    → record { reply = n; left = store r (buffers cells scales) } ≡ openOf s b
+unfolding openOf
+open-done s b {cells = cells} {scales = scales} h z e c d =
+    let w = room-sizes s b h in
+    let c′ : cells ≡ replicate (cellTotal s) 0 = c ∙ rw (w .0) in
+    let d′ : scales ≡ replicate (scaleTotal s) 0 = d ∙ rw (w .1) in
+    rw (z, e, c′, d′) (sym (outcome-done (room s b) (empty s) (store (newRecord noShape) b) h))
+
+module _ (r : Record) (b : Buffers) (good : lowest (storeRefusals r b) ≡ 0) where
+  -- past the store's own refusals and past the room's the others are the same
+  same : (a : List Refusal) → lowest (storeRefusals r b ++ a) ≡ lowest (room (r .shape) b ++ a)
+  same a = passed-before (storeRefusals r b) a (lowest-none 0 (storeRefusals r b) refl good) ∙ sym (passed-before (room (r .shape) b) a (room-passed r b good))
+
+  -- appending
+  module _ (l : ℕ) (keys values : List ℕ) {n : ℕ} {x : Buffers}
+      (inner : record { reply = n; left = x } ≡ appendRowsOf (r .shape) l (lengthOf r l) keys values b) where
+    pub append-refused : (n ≡ 0 → ⊥) → record { reply = n; left = store r x } ≡ appendOf r b l keys values
+    unfolding appendOf appendRowsOf
+    append-refused h = let w = refused-within _ _ (same (appendRefusals (r .shape) l (lengthOf r l) (length keys) (length values))) _ _ _ _ inner h in rw (w .1) (sym (w .0))
+
+    pub append-done : n ≡ 0
+        → record { reply = n; left = store (withLength r l (lengthOf r l + positions (r .shape) (length keys))) x } ≡ appendOf r b l keys values
+    unfolding appendOf appendRowsOf
+    append-done h = let w = done-within _ _ (same (appendRefusals (r .shape) l (lengthOf r l) (length keys) (length values))) _ _ _ _ inner h in rw (w .1) (sym (w .0))
+
+    pub append-grows : n ≡ 0 → Grows r l (lengthOf r l) (length keys)
+    unfolding appendRowsOf
+    append-grows h =
+        let s = sound-store r b good in
+        let w = sound-limits r s .layers-in in
+        let z = lowest-none 3 (appendRefusals (r .shape) l (lengthOf r l) (length keys) (length values)) refl
+        (sym (passed-before (room (r .shape) b) _ (room-passed r b good)) ∙ sym (given-number _ _ _ inner) ∙ h) in
+        let t = ltb-true l (r .shape .layers) (not-false _ (z .0)) in
+        record {
+          in-record = omega arith;
+          in-shape = s .shape-in;
+          span = leb-true _ _ (not-false _ (z .1 .1 .0));
+        }
+
+  -- a layer that is there is not over the capacity, so that this is no refusal of its own
+  not-over : (l : ℕ) (a : List Refusal) (t : Bool) → hasLayer (r .shape) l ≡ t
+      → lowest ((4 when not t) ∷ a) ≡ lowest (((4 when not t) ∷ a) ++ overfull (r .shape) (lengthOf r l))
+  unfolding lowest
+  not-over l a true e =
+      let h = held-in r l (sound-store r b good) (ltb-true l (r .shape .layers) e) in
+      sym (passed-after a (overfull (r .shape) (lengthOf r l)) (rw (le-leb (lengthOf r l) (r .shape .capacity) h), tt))
+  not-over l a false e = refl
+
+  same-over : (l : ℕ) (a : List Refusal)
+      → lowest (storeRefusals r b ++ ((4 when not (hasLayer (r .shape) l)) ∷ a))
+      ≡ lowest (room (r .shape) b ++ (((4 when not (hasLayer (r .shape) l)) ∷ a) ++ overfull (r .shape) (lengthOf r l)))
+  same-over l a =
+      passed-before (storeRefusals r b) _ (lowest-none 0 (storeRefusals r b) refl good)
+      ∙ not-over l a (hasLayer (r .shape) l) refl
+      ∙ sym (passed-before (room (r .shape) b) _ (room-passed r b good))
+
+  -- truncating
+  module _ (l t : ℕ) {n : ℕ} {x : Buffers} (inner : record { reply = n; left = x } ≡ removeRowsOf (r .shape) l (lengthOf r l) t b) where
+    pub truncate-refused : (n ≡ 0 → ⊥) → record { reply = n; left = store r x } ≡ truncateOf r b l t
+    unfolding truncateOf removeRowsOf
+    truncate-refused h = let w = refused-within _ _ (same-over l []) _ _ _ _ inner h in rw (w .1) (sym (w .0))
+
+    pub truncate-done : n ≡ 0 → record { reply = n; left = store (withLength r l (min (lengthOf r l) t)) x } ≡ truncateOf r b l t
+    unfolding truncateOf removeRowsOf
+    truncate-done h = let w = done-within _ _ (same-over l []) _ _ _ _ inner h in rw (w .1) (sym (w .0))
+
+    pub truncate-in-record : n ≡ 0 → l < 128
+    unfolding removeRowsOf
+    truncate-in-record h =
+        let w = sound-limits r (sound-store r b good) .layers-in in
+        let z = lowest-none 3 (removeRefusals (r .shape) l) refl
+        (sym (passed-before (storeRefusals r b) _ (lowest-none 0 (storeRefusals r b) refl good)) ∙ same-over l [] ∙ sym (given-number _ _ _ inner) ∙ h) in
+        omega (arith, ltb-true l (r .shape .layers) (not-false _ (z .0)))
+
+  -- reading
+  pub read-within : (l side h p : ℕ) (out : List ℕ) → readRowOf (r .shape) l (lengthOf r l) side h p b out ≡ readOf r b l side h p out
+  unfolding readOf readRowOf
+  read-within l side h p out =
+      outcome-same _ _ _ _
+      (sym
+      (same-over l
+      ((5 when not (hasHead (r .shape) side h)) ∷ (7 when not (eqb (length out) (headSize (r .shape)))) ∷ (8 when not (ltb p (lengthOf r l))) ∷ [])))

@@ -1,0 +1,4 @@
+pub mod CallLaws
+pub mod Determined
+pub mod Exactly
+pub mod StoreLaws
