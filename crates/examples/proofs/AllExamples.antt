@@ -3,15 +3,22 @@ use mathlib.Core.Path.{_≡_, refl}
 use mathlib.Core.List.{List, [], _∷_, map}
 use Prim.Native.Nat.{ℕ}
 use lib.Ieee.{lt, eq, div, mul, ofBits, toBits, ofInt}
-use Rattle.lists.specs.Chunks.{tab}
+use Rattle.lists.specs.Chunks.{tab, joined, at, each, turns, some}
 use Rattle.numbers.specs.Word.{bf16}
 use Rattle.numbers.specs.Scale.{magnitude, larger, largestFrom, largest, scaleOf}
 use Rattle.numbers.specs.Code.{nearestWhole, held, code8, code4, read4}
 use Rattle.groups.specs.Group.{packed, half, unpacked}
-use Rattle.examples.specs.Examples.{outcome, Example, P, AllHold, examples}
+use Rattle.replies.specs.Outcome.{lowest, outcome}
+use Rattle.shapes.specs.Shape.{ofFormat, cellBytes, scaleWords, total, limits, within, exact}
+use Rattle.cells.specs.Row.{little, f32Cells, bf16Cells, int8Cells, int8Scales, int4Cells, int4Scales, rowCells, rowScales}
+use Rattle.cells.specs.Layer.{put, putSide, putLayer, written}
+use Rattle.cells.specs.Calls.{appended}
+use Rattle.store.specs.Record.{goodLengths}
+use Rattle.store.specs.Calls.{openOf, appendOf}
+use Rattle.examples.specs.Examples.{answer, Example, P, AllHold, examples}
 
 got : Example → List ℕ
-got (P n asked said) = outcome asked
+got (P n asked said) = answer asked
 
 wanted : Example → List ℕ
 wanted (P n asked said) = said
@@ -22,5 +29,5 @@ one-by-one [] h = tt
 one-by-one (P n asked said ∷ es) h = (cc, one-by-one es (cc))
 
 pub examples-hold : AllHold examples
-unfolding examples outcome got wanted tab bf16 magnitude larger largestFrom largest scaleOf nearestWhole held code8 code4 read4 packed half unpacked lt eq div mul ofBits toBits ofInt
+unfolding examples answer got wanted tab joined at each turns some bf16 magnitude larger largestFrom largest scaleOf nearestWhole held code8 code4 read4 packed half unpacked lt eq div mul ofBits toBits ofInt lowest outcome ofFormat cellBytes scaleWords total limits within exact little f32Cells bf16Cells int8Cells int8Scales int4Cells int4Scales rowCells rowScales put putSide putLayer written appended goodLengths openOf appendOf
 examples-hold = one-by-one examples refl

@@ -7,6 +7,11 @@ use Rattle.numbers.specs.Word.{float, word, bf16}
 use Rattle.numbers.specs.Scale.{scaleOf}
 use Rattle.numbers.specs.Code.{code8}
 use Rattle.groups.specs.Group.{packed, unpacked}
+use Rattle.replies.specs.Outcome.{lowest}
+use Rattle.shapes.specs.declared.Shape.{Shape}
+use Rattle.shapes.specs.Shape.{cellTotal, scaleTotal, roomRefusals}
+use Rattle.cells.specs.Calls.{buffers}
+use Rattle.store.specs.Calls.{openOf, appendOf}
 
 pub data Asked : Type 0 where
   -- the scale of a run, by its divisor
@@ -19,21 +24,34 @@ pub data Asked : Type 0 where
   quotient : ℕ → Asked
   -- the BF16 pattern of a word
   half : ℕ → Asked
+  -- keys and values appended to a store of a shape, newly opened in used buffers: the reply, all cells, all scale words
+  stored : Shape → List ℕ → List ℕ → Asked
+  -- a shape, lent exactly its need: the reply
+  opened : Shape → Asked
+
+-- a shape in the paper's order
+abbrev shape : ℕ → ℕ → ℕ → ℕ → ℕ → Shape
+shape f l h d c = record { format = f; layers = l; heads = h; «head_size» = d; capacity = c }
 
 -- what comes out: floats as words
-unfoldable pub outcome : Asked → List ℕ
-outcome (scale divisor run) = word (scaleOf divisor run) ∷ []
-outcome (run8 run) = word (scaleOf 127 run) ∷ map (λ w. code8 w (scaleOf 127 run)) run
-outcome (group4 run) = word (scaleOf 7 run) ∷ (packed run (scaleOf 7 run) ++ unpacked (packed run (scaleOf 7 run)) (scaleOf 7 run))
-outcome (quotient bits) = code8 bits (float 0x3f80_0000) ∷ []
-outcome (half w) = bf16 w ∷ []
+unfoldable pub answer : Asked → List ℕ
+answer (scale divisor run) = word (scaleOf divisor run) ∷ []
+answer (run8 run) = word (scaleOf 127 run) ∷ map (λ w. code8 w (scaleOf 127 run)) run
+answer (group4 run) = word (scaleOf 7 run) ∷ (packed run (scaleOf 7 run) ++ unpacked (packed run (scaleOf 7 run)) (scaleOf 7 run))
+answer (quotient bits) = code8 bits (float 0x3f80_0000) ∷ []
+answer (half w) = bf16 w ∷ []
+answer (stored s keys values) =
+    let new = openOf s (buffers (replicate (cellTotal s) 0xa5) (replicate (scaleTotal s) 0xa5)) .left in
+    let done = appendOf (new .rec) (new .lent) 0 keys values in
+    done .reply ∷ (done .left .lent .cells ++ done .left .lent .scales)
+answer (opened s) = lowest (roomRefusals s (cellTotal s) (scaleTotal s)) ∷ []
 
 -- example n of the paper: what is asked, and what it says
 pub data Example : Type 0 where
   P : ℕ → Asked → List ℕ → Example
 
 abbrev pub Holds : Example → Type 0
-Holds (P n asked said) = outcome asked ≡ said
+Holds (P n asked said) = answer asked ≡ said
 
 abbrev pub AllHold : List Example → Type 0
 AllHold [] = Unit {0}
@@ -47,6 +65,9 @@ unfoldable pub examples : List Example
 examples =
     -- 127, 0.5, -0.5, -2.5
     P 1 (run8 (0x42fe_0000 ∷ 0x3f00_0000 ∷ 0xbf00_0000 ∷ 0xc020_0000 ∷ [])) (0x3f80_0000 ∷ 0x7f ∷ 0x01 ∷ 0xff ∷ 0xfd ∷ [])
+    -- the same through an append: INT8, one layer and head, D 4, C 2
+    ∷ P 1 (stored (shape 2 1 1 4 2) (0x42fe_0000 ∷ 0x3f00_0000 ∷ 0xbf00_0000 ∷ 0xc020_0000 ∷ []) (all 4 0))
+    (0 ∷ 0x7f ∷ 0x01 ∷ 0xff ∷ 0xfd ∷ all 12 0 ++ (0x3f80_0000 ∷ 0 ∷ 0x3f80_0000 ∷ 0 ∷ []))
     -- 7 at 0, -7 at 16
     ∷ P 2 (group4 (0x40e0_0000 ∷ all 15 0 ++ (0xc0e0_0000 ∷ all 15 0)))
     (0x3f80_0000 ∷ 0x1f ∷ all 15 0x88 ++ (0x40e0_0000 ∷ all 15 0 ++ (0xc0e0_0000 ∷ all 15 0)))
@@ -68,4 +89,10 @@ examples =
     ∷ P 8 (half 0x3f80_8000) (0x3f80 ∷ [])
     ∷ P 8 (half 0x3f81_8000) (0x3f82 ∷ [])
     ∷ P 8 (half 0x7f7f_ffff) (0x7f80 ∷ [])
+    -- the same through an append: BF16, one layer and head, D 3, C 1
+    ∷ P 8 (stored (shape 1 1 1 3 1) (0x3f80_8000 ∷ 0x3f81_8000 ∷ 0x7f7f_ffff ∷ []) (all 3 0))
+    (0 ∷ 0x80 ∷ 0x3f ∷ 0x82 ∷ 0x3f ∷ 0x80 ∷ 0x7f ∷ all 6 0)
+    -- F32, H 64, D 256, C 4,096
+    ∷ P 10 (opened (shape 0 2 64 256 4096)) (0 ∷ [])
+    ∷ P 10 (opened (shape 0 3 64 256 4096)) (1 ∷ [])
     ∷ []

@@ -1,12 +1,21 @@
 // The C boundary: numbers and slices in, the paper's numbers out. A slice is a pointer and then a length.
+pub(crate) mod records;
+
 use numbers::codes;
 use numbers::scales;
 use numbers::words;
+use records::record_of;
+use records::words_of;
+use replies::number;
+use shapes::Shape;
 ghost use mathlib.Core.Path.{_≡_};
 ghost use Rattle.numbers.specs.Word.{word, bf16, fromBf16};
 ghost use Rattle.numbers.specs.Scale.{scaleOf};
 ghost use Rattle.numbers.specs.Code.{code8, code4, read8};
 ghost use Rattle.groups.specs.Group.{groupReply, packInto, unpackInto};
+ghost use Rattle.cells.specs.Calls.{buffers};
+ghost use Rattle.store.specs.Calls.{openOf, appendOf, truncateOf, advanceOf, cachedLenOf, memoryBytesOf, readOf};
+ghost use Rattle.host.specs.Words.{recordOf, shapeOf, seen, told};
 
 // The scale of an INT8 head.
 #[no_mangle]
@@ -80,4 +89,141 @@ pub extern "C" fn kv_bf16_to_f32(half: u16) -> u32
     ensures { λ r. ⌜ r ≡ fromBf16 half ⌝ }
 {
     words::bf16_to_f32(half)
+}
+
+// Makes an empty store in buffers of exactly the shape's need.
+#[no_mangle]
+pub extern "C" fn kv_open(
+    rec: &mut [u32; 134],
+    format: u32,
+    layers: u32,
+    heads: u32,
+    head_size: u32,
+    capacity: u32,
+    cells: &mut [u8],
+    scales: &mut [u32],
+) -> u32
+    ensures { λ r.
+        ⌜
+        seen r (now (rec .exit)) (now (cells .exit)) (now (scales .exit))
+        ≡ openOf (shapeOf format layers heads «head_size» capacity) (buffers (now (cells .entry)) (now (scales .entry)))
+        ⌝ }
+{
+    let shape = Shape {
+        format,
+        layers,
+        heads,
+        head_size,
+        capacity,
+    };
+    let answer = store::open(shape, cells, scales);
+    *rec = words_of(answer.after);
+    let reply = answer.reply;
+    number(reply)
+}
+
+// Appends keys and values of n positions to a layer.
+#[no_mangle]
+pub extern "C" fn kv_append(
+    rec: &mut [u32; 134],
+    cells: &mut [u8],
+    scales: &mut [u32],
+    layer: u32,
+    keys: &[u32],
+    values: &[u32],
+) -> u32
+    ensures { λ r.
+        ⌜
+        seen r (now (rec .exit)) (now (cells .exit)) (now (scales .exit))
+        ≡ appendOf (recordOf (now (rec .entry))) (buffers (now (cells .entry)) (now (scales .entry))) layer (now (keys .entry)) (now (values .entry))
+        ⌝ }
+{
+    let answer = store::append(record_of(*rec), cells, scales, layer, keys, values);
+    *rec = words_of(answer.after);
+    let reply = answer.reply;
+    number(reply)
+}
+
+// Keeps the first `t` positions of a layer.
+#[no_mangle]
+pub extern "C" fn kv_truncate(
+    rec: &mut [u32; 134],
+    cells: &mut [u8],
+    scales: &mut [u32],
+    layer: u32,
+    t: u32,
+) -> u32
+    ensures { λ r.
+        ⌜
+        seen r (now (rec .exit)) (now (cells .exit)) (now (scales .exit))
+        ≡ truncateOf (recordOf (now (rec .entry))) (buffers (now (cells .entry)) (now (scales .entry))) layer t
+        ⌝ }
+{
+    let answer = store::truncate_to(record_of(*rec), cells, scales, layer, t);
+    *rec = words_of(answer.after);
+    let reply = answer.reply;
+    number(reply)
+}
+
+// Adds to the sequence number.
+#[no_mangle]
+pub extern "C" fn kv_advance(rec: &mut [u32; 134], count: u32) -> u32
+    ensures { λ r. ⌜ told r (recordOf (now (rec .exit))) ≡ advanceOf (recordOf (now (rec .entry))) count ⌝ }
+{
+    let answer = store::advance_seq_len(record_of(*rec), count);
+    *rec = words_of(answer.after);
+    let reply = answer.reply;
+    number(reply)
+}
+
+// The positions of a layer, in `count`.
+#[no_mangle]
+pub extern "C" fn kv_cached_len(rec: &[u32; 134], layer: u32, count: &mut u64) -> u32
+    ensures { λ r. ⌜ told r (now (count .exit)) ≡ cachedLenOf (recordOf (now (rec .entry))) layer ⌝ }
+{
+    let answer = store::cached_len(record_of(*rec), layer);
+    *count = answer.count;
+    let reply = answer.reply;
+    number(reply)
+}
+
+// The bytes of all rows, in `count`.
+#[no_mangle]
+pub extern "C" fn kv_memory_bytes(rec: &[u32; 134], count: &mut u64) -> u32
+    ensures { λ r. ⌜ told r (now (count .exit)) ≡ memoryBytesOf (recordOf (now (rec .entry))) ⌝ }
+{
+    let answer = store::memory_bytes(record_of(*rec));
+    *count = answer.count;
+    let reply = answer.reply;
+    number(reply)
+}
+
+// Reads one position of a side and head into `out`.
+#[no_mangle]
+pub extern "C" fn kv_read_row(
+    rec: &[u32; 134],
+    cells: &[u8],
+    scales: &[u32],
+    layer: u32,
+    side: u32,
+    head: u32,
+    position: u32,
+    out: &mut [u32],
+) -> u32
+    ensures { λ r.
+        ⌜
+        told r (now (out .exit))
+        ≡ readOf (recordOf (now (rec .entry))) (buffers (now (cells .entry)) (now (scales .entry))) layer side head position (now (out .entry))
+        ⌝ }
+{
+    number(store::read_row(
+        record_of(*rec),
+        cells,
+        scales,
+        layer,
+        side,
+        head,
+        position,
+        out,
+    ))
 }
