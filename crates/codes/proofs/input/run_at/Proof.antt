@@ -32,8 +32,8 @@ sub-if3 c = search needs
 returns-3 : tie.Need-returns-3 Inv-loop μ-loop
 returns-3 c = search needs
 
-word-at-requires : tie.Need-word-at-requires Inv-loop μ-loop
-word-at-requires c κs = search needs
+hex-at-requires : tie.Need-hex-at-requires Inv-loop μ-loop
+hex-at-requires c κs = search needs
 
 returns-4 : tie.Need-returns-4 Inv-loop μ-loop
 returns-4 c = search needs
@@ -87,7 +87,7 @@ run-at-spec =
     loop-holds
     sub-if3
     returns-3
-    word-at-requires
+    hex-at-requires
     returns-4
     cast-words
     mul-words

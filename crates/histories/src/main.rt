@@ -1,0 +1,19 @@
+// Plays calls of a store on a boundary of words and bytes, and tells what each answers and leaves. A line of standard
+// input is a call: words in hex, the first of which is its kind.
+mod calls;
+mod show;
+
+fn main() {
+    let mut space = io::large_buffer();
+    let n = io::read_full(0, &mut space);
+    start(&space[..n]);
+}
+
+// The memory at hand: a record of zeros, and buffers that were used before.
+fn start(text: &[u8]) {
+    let mut rec = [0u32; 134];
+    let mut cells = [0xA5u8; 2048];
+    let mut scales = [0xA5A5_A5A5u32; 256];
+    let mut lent = [0u32; 2];
+    calls::play(text, &mut rec, &mut lent, &mut cells, &mut scales);
+}
