@@ -1,4 +1,6 @@
 //! The static library's functions, and a safe wrapper on slices for each.
+use crate::record::{Shape, WORDS};
+use crate::replies::Place;
 
 /// The reply of a call that was done.
 pub const DONE: u32 = 0;
@@ -27,6 +29,55 @@ extern "C" {
     ) -> u32;
     fn kv_f32_to_bf16(word: u32) -> u16;
     fn kv_bf16_to_f32(half: u16) -> u32;
+    fn kv_open(
+        rec: *mut u32,
+        format: u32,
+        layers: u32,
+        heads: u32,
+        head_size: u32,
+        capacity: u32,
+        cells: *mut u8,
+        cells_length: usize,
+        scales: *mut u32,
+        scales_length: usize,
+    ) -> u32;
+    fn kv_append(
+        rec: *mut u32,
+        cells: *mut u8,
+        cells_length: usize,
+        scales: *mut u32,
+        scales_length: usize,
+        layer: u32,
+        keys: *const u32,
+        keys_length: usize,
+        values: *const u32,
+        values_length: usize,
+    ) -> u32;
+    fn kv_truncate(
+        rec: *mut u32,
+        cells: *mut u8,
+        cells_length: usize,
+        scales: *mut u32,
+        scales_length: usize,
+        layer: u32,
+        t: u32,
+    ) -> u32;
+    fn kv_advance(rec: *mut u32, count: u32) -> u32;
+    fn kv_cached_len(rec: *mut u32, layer: u32, count: *mut u64) -> u32;
+    fn kv_memory_bytes(rec: *mut u32, count: *mut u64) -> u32;
+    fn kv_read_row(
+        rec: *mut u32,
+        cells: *const u8,
+        cells_length: usize,
+        scales: *const u32,
+        scales_length: usize,
+        layer: u32,
+        side: u32,
+        head: u32,
+        position: u32,
+        out: *mut u32,
+        out_length: usize,
+    ) -> u32;
 }
 
 /// The INT8 scale of a run.
@@ -80,4 +131,96 @@ pub fn f32_to_bf16(word: u32) -> u16 {
 /// The word that a BF16 half reads as.
 pub fn bf16_to_f32(half: u16) -> u32 {
     unsafe { kv_bf16_to_f32(half) }
+}
+
+/// What a call on a store is lent. It is open to changes even where the call only reads, so that those are seen.
+pub struct Lending<'a> {
+    pub record: &'a mut [u32; WORDS],
+    pub cells: &'a mut [u8],
+    pub scales: &'a mut [u32],
+}
+
+/// Opens a store; the reply.
+pub fn open(lending: Lending, shape: &Shape) -> u32 {
+    unsafe {
+        kv_open(
+            lending.record.as_mut_ptr(),
+            shape.format,
+            shape.layers,
+            shape.heads,
+            shape.head_size,
+            shape.capacity,
+            lending.cells.as_mut_ptr(),
+            lending.cells.len(),
+            lending.scales.as_mut_ptr(),
+            lending.scales.len(),
+        )
+    }
+}
+
+/// Appends positions to a layer; the reply.
+pub fn append(lending: Lending, layer: u32, keys: &[u32], values: &[u32]) -> u32 {
+    unsafe {
+        kv_append(
+            lending.record.as_mut_ptr(),
+            lending.cells.as_mut_ptr(),
+            lending.cells.len(),
+            lending.scales.as_mut_ptr(),
+            lending.scales.len(),
+            layer,
+            keys.as_ptr(),
+            keys.len(),
+            values.as_ptr(),
+            values.len(),
+        )
+    }
+}
+
+/// Truncates a layer; the reply.
+pub fn truncate(lending: Lending, layer: u32, to: u32) -> u32 {
+    unsafe {
+        kv_truncate(
+            lending.record.as_mut_ptr(),
+            lending.cells.as_mut_ptr(),
+            lending.cells.len(),
+            lending.scales.as_mut_ptr(),
+            lending.scales.len(),
+            layer,
+            to,
+        )
+    }
+}
+
+/// Adds to `seq_len`; the reply.
+pub fn advance(record: &mut [u32; WORDS], count: u32) -> u32 {
+    unsafe { kv_advance(record.as_mut_ptr(), count) }
+}
+
+/// Counts a layer's positions; the reply.
+pub fn cached_len(record: &mut [u32; WORDS], layer: u32, count: &mut u64) -> u32 {
+    unsafe { kv_cached_len(record.as_mut_ptr(), layer, count) }
+}
+
+/// Counts the bytes of all rows; the reply.
+pub fn memory_bytes(record: &mut [u32; WORDS], count: &mut u64) -> u32 {
+    unsafe { kv_memory_bytes(record.as_mut_ptr(), count) }
+}
+
+/// Reads a row; the reply.
+pub fn read_row(lending: Lending, place: Place, output: &mut [u32]) -> u32 {
+    unsafe {
+        kv_read_row(
+            lending.record.as_mut_ptr(),
+            lending.cells.as_mut_ptr(),
+            lending.cells.len(),
+            lending.scales.as_mut_ptr(),
+            lending.scales.len(),
+            place.layer,
+            place.side,
+            place.head,
+            place.position,
+            output.as_mut_ptr(),
+            output.len(),
+        )
+    }
 }

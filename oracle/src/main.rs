@@ -1,25 +1,38 @@
 //! Holds the static library's answers to those of the lifted Rust.
 mod boundary;
+mod calls;
 mod dice;
+mod draws;
+mod histories;
 mod part;
 mod parts;
 mod patterns;
+mod record;
+mod replies;
+mod rows;
 mod rules;
 #[allow(dead_code, clippy::needless_range_loop)]
 mod rust;
+#[allow(dead_code, unknown_lints, clippy::needless_range_loop)]
+#[allow(clippy::upper_case_acronyms, clippy::manual_checked_ops)]
+mod rust_store;
+mod speed;
 mod tally;
 mod vectors;
+mod wanted;
 mod words;
 
 use part::{Part, Reach};
 use std::env;
 use std::ffi::{OsStr, OsString};
+use std::io;
 use std::path::Path;
 use std::process::ExitCode;
 use std::time::Instant;
 use tally::Tally;
 
-const USAGE: &str = "usage: oracle sweep | oracle slice | oracle vectors DIR";
+const USAGE: &str =
+    "usage: oracle sweep | oracle slice | oracle speed | oracle vectors DIR | oracle histories DIR";
 
 fn main() -> ExitCode {
     let arguments: Vec<OsString> = env::args_os().skip(1).collect();
@@ -27,7 +40,9 @@ fn main() -> ExitCode {
     match (command, &arguments[..]) {
         (Some("sweep"), [_]) => compare(Reach::Sweep),
         (Some("slice"), [_]) => compare(Reach::Slice),
-        (Some("vectors"), [_, folder]) => write_vectors(folder),
+        (Some("speed"), [_]) => speed::measure(),
+        (Some("vectors"), [_, folder]) => written(vectors::write, folder),
+        (Some("histories"), [_, folder]) => written(histories::write, folder),
         _ => {
             eprintln!("{USAGE}");
             ExitCode::from(2)
@@ -63,12 +78,13 @@ fn timed(part: &Part) -> Tally {
     tally
 }
 
-/// Writes the fixed list to a folder.
-fn write_vectors(folder: &OsStr) -> ExitCode {
-    match vectors::write(Path::new(folder)) {
+/// Writes a fixed list to a folder.
+fn written(write: fn(&Path) -> io::Result<()>, folder: &OsStr) -> ExitCode {
+    let folder = Path::new(folder);
+    match write(folder) {
         Ok(()) => ExitCode::SUCCESS,
         Err(error) => {
-            eprintln!("{}: {error}", Path::new(folder).display());
+            eprintln!("{}: {error}", folder.display());
             ExitCode::FAILURE
         }
     }

@@ -1,4 +1,5 @@
-//! What the paper decides beside the Rust: reading, words of arithmetic, BF16.
+//! What the paper decides beside the Rust: reading, words of arithmetic, BF16, byte counts of any record.
+use crate::record::Record;
 use crate::rust::{unpack_i4_group, INT4_GROUP_SIZE};
 
 /// The word that a NaN made by arithmetic is written as.
@@ -37,6 +38,19 @@ pub fn bf16_by_rule(word: u32) -> u16 {
 /// The word that a BF16 half reads as.
 pub fn read_bf16(half: u16) -> u32 {
     u32::from(half) * 65_536
+}
+
+/// The byte count of a record inside the limits: the sum over layers of length · 2H(B + 4S).
+pub fn byte_count(record: &Record) -> u64 {
+    let shape = record.shape();
+    let row = shape.row_bytes() + 4 * shape.row_scales();
+    let position = 2 * u64::from(shape.heads) * row;
+    let positions: u64 = record
+        .lengths()
+        .iter()
+        .map(|length| u64::from(*length))
+        .sum();
+    positions * position
 }
 
 /// The BF16 half nearest to a number, the even one of two equally near; none of a NaN.

@@ -4,6 +4,7 @@ mod codes;
 mod groups;
 mod reading;
 mod scales;
+mod store;
 
 use crate::part::{Part, Reach};
 
@@ -15,6 +16,7 @@ pub fn all(reach: Reach) -> Vec<Part> {
         groups::parts(reach),
         reading::parts(reach),
         bf16::parts(reach),
+        store::parts(reach),
     ]
     .into_iter()
     .flatten()

@@ -1,0 +1,70 @@
+//! A caller of the library.
+use crate::boundary::{self, Lending};
+use crate::calls::{Answer, Call, Holdings, Told};
+
+/// What a count holds before it is asked for.
+const DIRT: u64 = 0xA5A5_A5A5_A5A5_A5A5;
+
+/// The caller's holdings as the library leaves them.
+pub struct Ours {
+    pub holdings: Holdings,
+}
+
+impl Ours {
+    /// Plays a call.
+    pub fn play(&mut self, call: &Call) -> Answer {
+        match call {
+            Call::Open(shape) => plain(boundary::open(self.lending(), shape)),
+            Call::Append {
+                layer,
+                keys,
+                values,
+            } => plain(boundary::append(self.lending(), *layer, keys, values)),
+            Call::Truncate { layer, to } => plain(boundary::truncate(self.lending(), *layer, *to)),
+            Call::Advance { count } => plain(boundary::advance(self.record(), *count)),
+            Call::CachedLen { layer } => {
+                counted(|count| boundary::cached_len(self.record(), *layer, count))
+            }
+            Call::MemoryBytes => counted(|count| boundary::memory_bytes(self.record(), count)),
+            Call::ReadRow {
+                place,
+                output,
+                lent,
+            } => {
+                let mut output = output.clone();
+                let reply = boundary::read_row(self.lending(), *place, &mut output[..*lent]);
+                let told = Told::Output(output);
+                Answer { reply, told }
+            }
+        }
+    }
+
+    /// The words of the record.
+    fn record(&mut self) -> &mut [u32; crate::record::WORDS] {
+        &mut self.holdings.record.0
+    }
+
+    /// The record and the lent fronts of the buffers.
+    fn lending(&mut self) -> Lending<'_> {
+        let holdings = &mut self.holdings;
+        Lending {
+            record: &mut holdings.record.0,
+            cells: &mut holdings.cells[..holdings.lent.cells],
+            scales: &mut holdings.scales[..holdings.lent.scales],
+        }
+    }
+}
+
+/// A reply alone.
+fn plain(reply: u32) -> Answer {
+    let told = Told::Nothing;
+    Answer { reply, told }
+}
+
+/// The reply and the count of a question.
+fn counted(ask: impl FnOnce(&mut u64) -> u32) -> Answer {
+    let mut count = DIRT;
+    let reply = ask(&mut count);
+    let told = Told::Count(count);
+    Answer { reply, told }
+}

@@ -1,0 +1,306 @@
+//! What a random sequence does next.
+use super::shapes::{huge, spoiled, Size};
+use crate::calls::{Call, Change, Holdings, Step};
+use crate::dice::Dice;
+use crate::draws::{call, filled_layer, layer_of, read_into};
+use crate::record::{Lent, Record, Shape, FIRST_LENGTH, LENGTHS, SEQ_LEN, WORDS};
+use crate::replies::{self, Place};
+
+/// The most rows that are read in a row.
+const ROWS: usize = 48;
+
+/// The kind of stores of a sequence, and its first one.
+pub struct Script {
+    size: Size,
+    first: Shape,
+}
+
+impl Script {
+    /// A script with a random first store.
+    pub fn new(dice: &mut Dice) -> Script {
+        let size = Size::drawn(dice);
+        Script {
+            size,
+            first: size.shape(dice),
+        }
+    }
+
+    /// Dirty holdings with room for the first store and more.
+    pub fn holdings(&self, dice: &mut Dice) -> Holdings {
+        let need = exact(&self.first);
+        let (times, cells, scales) = match self.size {
+            Size::Limit => (1, 64, 16),
+            _ => (2, 64, 256),
+        };
+        let mut record = Record::NONE;
+        record.0.copy_from_slice(&dice.words(WORDS));
+        Holdings {
+            record,
+            cells: dice.bytes(times * need.cells + cells),
+            scales: dice.words(times * need.scales + scales),
+            lent: Lent {
+                cells: 0,
+                scales: 0,
+            },
+        }
+    }
+
+    /// The next steps.
+    pub fn turn(&self, holdings: &Holdings, dice: &mut Dice) -> Vec<Step> {
+        let usable = replies::truncate(&holdings.record, holdings.lent, 0) == 0;
+        if !usable && dice.below(5) != 0 {
+            return self.open(holdings, dice);
+        }
+        match dice.below(64) {
+            0 => self.open(holdings, dice),
+            1 => open_refused(holdings, dice),
+            2 => open_with_wrong_room(holdings, dice),
+            3..=5 => with_wrong_room(holdings, dice),
+            6..=12 => damaged(&holdings.record, dice),
+            13 => without_buffers(dice),
+            14 | 15 => rows_of_a_layer(&holdings.record, dice),
+            _ => vec![Step::Call(call(&holdings.record, dice))],
+        }
+    }
+
+    /// Opens a store, over a used one or not.
+    fn open(&self, holdings: &Holdings, dice: &mut Dice) -> Vec<Step> {
+        let drawn = self.size.shape(dice);
+        let shape = if fits(exact(&drawn), holdings) {
+            drawn
+        } else {
+            self.first
+        };
+        vec![lend(exact(&shape)), Step::Call(Call::Open(shape))]
+    }
+}
+
+/// The exact need of a shape that is not too large.
+fn exact(shape: &Shape) -> Lent {
+    Lent::exact(shape).expect("the shape is not too large")
+}
+
+/// Whether so much is at hand.
+fn fits(lent: Lent, holdings: &Holdings) -> bool {
+    lent.cells <= holdings.cells.len() && lent.scales <= holdings.scales.len()
+}
+
+/// The step that lends so much.
+fn lend(lent: Lent) -> Step {
+    Step::Change(Change::Lend(lent))
+}
+
+/// An open of a shape outside the limits, with what it would need where that is at hand.
+fn open_refused(holdings: &Holdings, dice: &mut Dice) -> Vec<Step> {
+    let shape = match dice.below(2) {
+        0 => spoiled(&holdings.record.shape(), dice),
+        _ => huge(dice),
+    };
+    let in_32_bits = |need: u128| need as u32 as usize;
+    let need = Lent {
+        cells: in_32_bits(shape.cells()),
+        scales: in_32_bits(shape.scales()),
+    };
+    let lent = if fits(need, holdings) {
+        need
+    } else {
+        holdings.lent
+    };
+    vec![lend(lent), Step::Call(Call::Open(shape))]
+}
+
+/// An open with a buffer that is too short or too long.
+fn open_with_wrong_room(holdings: &Holdings, dice: &mut Dice) -> Vec<Step> {
+    let shape = holdings.record.shape();
+    vec![
+        lend(wrong_room(holdings, dice)),
+        Step::Call(Call::Open(shape)),
+        lend(holdings.lent),
+    ]
+}
+
+/// A call with a buffer that is too short or too long.
+fn with_wrong_room(holdings: &Holdings, dice: &mut Dice) -> Vec<Step> {
+    vec![
+        lend(wrong_room(holdings, dice)),
+        Step::Call(call(&holdings.record, dice)),
+        lend(holdings.lent),
+    ]
+}
+
+/// Lengths of which one, or each, is not what is lent now.
+fn wrong_room(holdings: &Holdings, dice: &mut Dice) -> Lent {
+    let Lent { cells, scales } = holdings.lent;
+    let wrong = match dice.below(6) {
+        0 => (cells.saturating_sub(1), scales),
+        1 => (cells + 1, scales),
+        2 => (cells, scales.saturating_sub(1)),
+        3 => (cells, scales + 1),
+        4 => (0, 0),
+        _ => (dice.place(cells + 1), dice.place(scales + 1)),
+    };
+    let wrong = Lent {
+        cells: wrong.0,
+        scales: wrong.1,
+    };
+    if fits(wrong, holdings) {
+        wrong
+    } else {
+        holdings.lent
+    }
+}
+
+/// One or two calls on a record that was changed by hand, and then the words as they were.
+fn damaged(before: &Record, dice: &mut Dice) -> Vec<Step> {
+    let damage = damage(before, dice);
+    let mut record = *before;
+    for &(place, word) in &damage {
+        record.0[place] = word;
+    }
+    let mut steps: Vec<Step> = damage
+        .iter()
+        .map(|(place, _)| word_of(&record, *place))
+        .collect();
+    for _ in 0..1 + dice.below(2) {
+        steps.push(Step::Call(call(&record, dice)));
+    }
+    steps.extend(damage.iter().map(|(place, _)| word_of(before, *place)));
+    steps
+}
+
+/// The step that gives a place of the record its word.
+fn word_of(record: &Record, place: usize) -> Step {
+    Step::Change(Change::RecordWord(place, record.0[place]))
+}
+
+/// New words for some places of a record: inside the limits, beside them, and far off.
+fn damage(record: &Record, dice: &mut Dice) -> Vec<(usize, u32)> {
+    let shape = record.shape();
+    let layer = layer_of(record, dice).min(LENGTHS as u32 - 1) as usize;
+    let past = (shape.layers as usize).min(LENGTHS - 1);
+    let past = [past, LENGTHS - 1, past + dice.place(LENGTHS - past)][dice.place(3)];
+    match dice.below(10) {
+        0 => vec![(0, [4, 5, u32::MAX, dice.below(4)][dice.place(4)])],
+        1 => vec![(1, beside(shape.layers, 128, dice))],
+        2 => vec![(2, beside(shape.heads, 64, dice))],
+        3 => vec![(3, beside(shape.head_size, 256, dice))],
+        4 => vec![(4, beside(shape.capacity, 4096, dice))],
+        5 => vec![(SEQ_LEN, u32::MAX - [0, 1, dice.below(9)][dice.place(3)])],
+        6 => vec![(
+            FIRST_LENGTH + layer,
+            beside(shape.capacity, shape.capacity, dice),
+        )],
+        7 => vec![(
+            FIRST_LENGTH + past,
+            [1, 1, shape.capacity, u32::MAX][dice.place(4)],
+        )],
+        8 => vec![(
+            FIRST_LENGTH + layer,
+            dice.below(shape.capacity.saturating_add(1)),
+        )],
+        _ => vec![(1, shape.heads), (2, shape.layers)],
+    }
+}
+
+/// A word that stands beside another one or beside its limit.
+fn beside(word: u32, limit: u32, dice: &mut Dice) -> u32 {
+    let words = [
+        0,
+        word.wrapping_sub(1),
+        word.wrapping_add(1),
+        limit.wrapping_add(1),
+        u32::MAX,
+    ];
+    words[dice.place(words.len())]
+}
+
+/// Questions and advances on a record of any shape and any lengths, which has no buffers.
+fn without_buffers(dice: &mut Dice) -> Vec<Step> {
+    let record = record_without_buffers(dice);
+    let mut steps: Vec<Step> = (0..WORDS).map(|place| word_of(&record, place)).collect();
+    let layer = dice.below(record.shape().layers + 1);
+    let count = dice.word();
+    let calls = [
+        Call::MemoryBytes,
+        Call::CachedLen { layer },
+        Call::Advance { count },
+    ];
+    steps.extend(calls.map(Step::Call));
+    steps
+}
+
+/// A record of a huge shape whose layers are all full, or of random lengths.
+fn record_without_buffers(dice: &mut Dice) -> Record {
+    let mut shape = huge(dice);
+    if dice.below(3) == 0 {
+        shape.layers = 1 + dice.below(shape.layers);
+    }
+    let mut record = Record::opened(&shape);
+    record.0[SEQ_LEN] = dice.word();
+    let full = dice.below(2) == 0;
+    for layer in 0..shape.layers as usize {
+        let capacity = shape.capacity as usize;
+        let length = if full {
+            capacity
+        } else {
+            dice.place(capacity + 1)
+        };
+        record.set_length(layer, length);
+    }
+    record
+}
+
+/// Every row of a layer, as far as they are not too many.
+fn rows_of_a_layer(record: &Record, dice: &mut Dice) -> Vec<Step> {
+    let layer = filled_layer(record, dice);
+    let shape = record.shape();
+    let (heads, length) = (shape.heads.min(64), record.length(layer).min(4096));
+    let places = (0..2).flat_map(|side| {
+        let positions = move |head| (0..length).map(move |position| (side, head, position));
+        (0..heads).flat_map(positions)
+    });
+    let read = |(side, head, position)| {
+        let place = Place {
+            layer,
+            side,
+            head,
+            position,
+        };
+        Step::Call(read_into(place, shape.head_size as usize, dice))
+    };
+    places.take(ROWS).map(read).collect()
+}
+
+#[cfg(test)]
+mod tests {
+    use super::*;
+    use crate::calls::kind;
+    use crate::wanted::Wanted;
+    use std::collections::BTreeSet;
+
+    /// The kinds of calls in some sequences, each with its replies.
+    fn replies_of(sequences: u64) -> BTreeSet<(u32, u32)> {
+        let mut seen = BTreeSet::new();
+        for piece in 0..sequences {
+            let mut dice = Dice::of("test", piece);
+            let script = Script::new(&mut dice);
+            let mut wanted = Wanted::new(script.holdings(&mut dice));
+            for _ in 0..32 {
+                for step in script.turn(&wanted.holdings, &mut dice) {
+                    match step {
+                        Step::Change(change) => wanted.make(change),
+                        Step::Call(call) => {
+                            seen.insert((kind(&call), wanted.play(&call).reply));
+                        }
+                    }
+                }
+            }
+        }
+        seen
+    }
+
+    #[test]
+    fn every_call_gives_each_of_its_replies() {
+        assert_eq!(replies_of(400), replies::each());
+    }
+}
