@@ -1,4 +1,5 @@
 -- The limits bound every product.
+use mathlib.Core.Path.{refl}
 use native.Mathlib.Omega.{arith}
 use borrow.Author.Needs.{needs}
 use Rattle.shapes.specs.Shape.{total}
@@ -38,7 +39,7 @@ mul-result-4 c =
 
 returns : tie.Need-returns
 unfolding total
-returns c = search needs
+returns c = refl
 
 pub room-spec : {M : Type 1} → statement M
 room-spec = tie.close (tie.spec cast-result mul-result cast-result-2 mul-result-2 cast-result-3 mul-result-3 mul-result-4 returns)
