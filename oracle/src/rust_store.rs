@@ -407,6 +407,28 @@ mod tests {
     }
 
     #[test]
+    fn no_length_is_kept_below_32_numbers_in_int4() {
+        let mut store = store(1, 16, KvQuantType::INT4);
+        store.append(0, &[1.0; 16], &[2.0; 16]);
+        assert_eq!((store.cached_len(0), store.memory_bytes()), (0, 16));
+    }
+
+    #[test]
+    fn values_past_the_keys_are_ignored() {
+        let mut store = store(1, 4, KvQuantType::F32);
+        store.append(0, &[1.0; 4], &[2.0; 5]);
+        assert_eq!((store.cached_len(0), store.memory_bytes()), (1, 32));
+    }
+
+    #[test]
+    fn too_few_values_panic_after_keys_were_pushed() {
+        let mut store = store(1, 4, KvQuantType::F32);
+        let append = || store.append(0, &[1.0; 4], &[2.0; 3]);
+        assert!(std::panic::catch_unwind(std::panic::AssertUnwindSafe(append)).is_err());
+        assert_eq!(store.memory_bytes(), 16);
+    }
+
+    #[test]
     fn the_whole_case_counts_16_bytes() {
         let mut store = store(1, 4, KvQuantType::INT8);
         store.append(0, &[127.0, 0.5, -0.5, -2.5], &[0.0; 4]);

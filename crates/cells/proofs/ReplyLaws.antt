@@ -11,7 +11,8 @@ use Rattle.replies.specs.Outcome.{Refusal, lowest, outcome}
 use Rattle.replies.proofs.Refusals.{None, lowest-none, passed-before, refused-before, outcome-done, outcome-refused}
 use Rattle.shapes.specs.declared.Shape.{Shape}
 use Rattle.shapes.specs.Shape.{headSize, roomRefusals, limits, within, exact}
-use Rattle.shapes.proofs.ShapeLaws.{both, within-limits, exact-sizes}
+use Rattle.replies.proofs.Flags.{both}
+use Rattle.shapes.proofs.ShapeLaws.{within-limits, exact-sizes}
 use Rattle.cells.specs.Calls.{appendRefusals, removeRefusals, readRefusals, overfull}
 use Rattle.cells.specs.Fits.{InRoom, RowsIn, RowIn}
 

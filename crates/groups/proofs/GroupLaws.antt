@@ -1,6 +1,6 @@
 -- The lengths of a group's two forms, what its test tells, and how the two halves of the numbers make the whole.
-use mathlib.Core.Path.{_≡_, refl}
-use mathlib.Core.Bool.{Bool, true, false, _&&_}
+use mathlib.Core.Path.{_≡_}
+use mathlib.Core.Bool.{true}
 use mathlib.Core.List.{List, _++_, append-assoc}
 use Prim.Native.Nat.{ℕ, _+_, _≤_}
 use borrow.Author.Tests.{leb-true}
@@ -9,11 +9,8 @@ use lib.ListN.{length, take, drop, length-append}
 use lib.Seq.{take-at, drop-at, drop-drop}
 use lib.Ieee.{Float}
 use Rattle.lists.proofs.Tab.{tab-length}
+use Rattle.replies.proofs.Flags.{both}
 use Rattle.groups.specs.Group.{packed, half, unpacked, holds, byteAt, numberAt}
-
-both : (p q : Bool) → (p && q) ≡ true → (p ≡ true) × (q ≡ true)
-both true q h = (refl, h)
-both false q h = (cc, cc)
 
 pub enough : (numbers bytes : ℕ) → holds numbers bytes ≡ true → (32 ≤ numbers) × (16 ≤ bytes)
 unfolding holds

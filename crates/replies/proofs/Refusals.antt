@@ -8,6 +8,7 @@ use Prim.Native.Nat.{ℕ, _≤_, _<_}
 use native.Mathlib.Omega.{arith}
 use lib.Dec.{eqb, ltb}
 use borrow.Author.Tests.{ltb-true, eqb-true, eq-eqb, ne-eqb}
+use Rattle.replies.proofs.Flags.{both}
 use Rattle.replies.specs.Outcome.{Refusal, _when_, lowest, Applies, Here, Outcome, outcome}
 
 -- the numbers rise from above m
@@ -19,10 +20,6 @@ rising m ((n when holds) ∷ others) = ltb m n && rising n others
 abbrev pub None : List Refusal → Type 0
 None [] = Unit
 None ((n when holds) ∷ others) = (holds ≡ false) × None others
-
-both : (p q : Bool) → (p && q) ≡ true → (p ≡ true) × (q ≡ true)
-both true q h = (refl, h)
-both false q h = (cc, cc)
 
 -- the first number is above m, and the others rise from it
 rises : (m n : ℕ) (holds : Bool) (a : List Refusal) → rising m ((n when holds) ∷ a) ≡ true → (m < n) × (rising n a ≡ true)

@@ -1,25 +1,15 @@
 -- What a shape inside the limits is known by, and the sizes that follow from it.
 -- Each holds by the tests that make up the limits, one by one.
-use mathlib.Core.Path.{_≡_, refl, sym, _∙_}
-use mathlib.Core.Bool.{Bool, true, false, cond, not, _&&_}
+use mathlib.Core.Path.{_≡_}
+use mathlib.Core.Bool.{Bool, true, false, cond}
 use Prim.Native.Nat.{ℕ, _*_, _%_, _≤_}
 use native.Mathlib.Nat.{mul-le-mul}
 use native.Mathlib.Omega.{arith}
 use lib.Dec.{eqb, leb}
-use borrow.Author.Tests.{leb-true, eqb-true, not-true, not-false}
+use borrow.Author.Tests.{leb-true, eqb-true}
+use Rattle.replies.proofs.Flags.{both}
 use Rattle.shapes.specs.declared.Shape.{Shape}
 use Rattle.shapes.specs.Shape.{headSize, ofFormat, cellBytes, scaleWords, total, cellTotal, scaleTotal, upTo, limits, within, exact}
-
-pub both : (p q : Bool) → (p && q) ≡ true → (p ≡ true) × (q ≡ true)
-both true q h = (refl, h)
-both false q h = (cc, cc)
-
--- what a test says of the definition that its call answers
-pub passed : {t u : Bool} → t ≡ u → not t ≡ false → u ≡ true
-passed e h = sym e ∙ not-false _ h
-
-pub failed : {t u : Bool} → t ≡ u → not t ≡ true → u ≡ false
-failed e h = sym e ∙ not-true _ h
 
 -- the limits, as facts
 pub record Limits (s : Shape) : Type 0 where

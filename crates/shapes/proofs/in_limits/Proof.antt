@@ -2,7 +2,7 @@
 use borrow.Author.Needs.{needs}
 use borrow.Author.Tests.{le-leb, lt-leb}
 use Rattle.shapes.specs.Shape.{limits}
-use Rattle.shapes.proofs.ShapeLaws.{passed, failed}
+use Rattle.replies.proofs.Flags.{passed, failed}
 use Rattle.shapes.proofs.in_limits.Statement.{statement}
 use Rattle.shapes.proofs.in_limits.Tie as tie
 

@@ -1,7 +1,8 @@
 -- Past the limits, the total is computed and compared.
 use borrow.Author.Needs.{needs}
 use Rattle.shapes.specs.Shape.{within}
-use Rattle.shapes.proofs.ShapeLaws.{passed, failed, limits-facts, cell-bytes-most}
+use Rattle.replies.proofs.Flags.{passed, failed}
+use Rattle.shapes.proofs.ShapeLaws.{limits-facts, cell-bytes-most}
 use Rattle.shapes.proofs.is_within.Statement.{statement}
 use Rattle.shapes.proofs.is_within.Tie as tie
 

@@ -3,7 +3,8 @@ use borrow.Author.Needs.{needs}
 use borrow.Author.Tests.{ne-eqb, eq-eqb}
 use Rattle.replies.specs.Outcome.{lowest}
 use Rattle.shapes.specs.Shape.{exact}
-use Rattle.shapes.proofs.ShapeLaws.{passed, failed, within-limits, limits-facts, cell-bytes-most, scale-words-most}
+use Rattle.replies.proofs.Flags.{passed, failed}
+use Rattle.shapes.proofs.ShapeLaws.{within-limits, limits-facts, cell-bytes-most, scale-words-most}
 use Rattle.shapes.proofs.room_reply.Statement.{statement}
 use Rattle.shapes.proofs.room_reply.Tie as tie
 

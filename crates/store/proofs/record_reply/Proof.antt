@@ -1,7 +1,7 @@
 -- Each return knows how the tests before it ended.
 use mathlib.Core.Path.{sym, _∙_}
 use Rattle.replies.specs.Outcome.{lowest}
-use Rattle.shapes.proofs.ShapeLaws.{passed, failed}
+use Rattle.replies.proofs.Flags.{passed, failed}
 use borrow.Author.Needs.{needs}
 use Rattle.store.proofs.record_reply.Statement.{statement}
 use Rattle.store.proofs.record_reply.Tie as tie
