@@ -8,7 +8,7 @@ use native.Mathlib.Omega.{arith}
 use lib.Dec.{leb}
 use borrow.Author.Tests.{le-leb, lt-leb, ltb-true, leb-true, eqb-true, not-false}
 use Rattle.replies.specs.Outcome.{Refusal, lowest, outcome}
-use Rattle.replies.proofs.Refusals.{None, lowest-none, passed-before, refused-before, outcome-done, outcome-refused}
+use Rattle.replies.proofs.Refusals.{None, still-passed, still-refused, lowest-none, passed-before, refused-before, outcome-done, outcome-refused}
 use Rattle.shapes.specs.declared.Shape.{Shape}
 use Rattle.shapes.specs.Shape.{headSize, roomRefusals, limits, within, exact}
 use Rattle.replies.proofs.Flags.{both}
@@ -28,20 +28,17 @@ new-within {held} {cap} {m} h w = le-leb (held + m) cap (omega arith)
 
 -- what a call leaves whose reply r was tested by its number n
 module _ (a : List Refusal) {r n : ℕ} (e : r ≡ lowest a) (q : n ≡ r) where
-  pub nothing-refused : n ≡ 0 → lowest a ≡ 0
-  nothing-refused z = sym e ∙ sym q ∙ z
-
   pub call-done : {A : Type 0} {new left : A} (old : A) → n ≡ 0 → left ≡ new → record { reply = r; left = left } ≡ outcome a new old
-  call-done {new = new} old z w = rw (outcome-done a new old (nothing-refused z), w, sym q ∙ z)
+  call-done {new = new} old z w = rw (outcome-done a new old (still-passed q e z), w, sym q ∙ z)
 
   pub call-refused : {A : Type 0} {old : A} (new : A) → (n ≡ 0 → ⊥) → record { reply = r; left = old } ≡ outcome a new old
-  call-refused {old = old} new h = rw (outcome-refused a new old (λ z. h (q ∙ e ∙ z)), e)
+  call-refused {old = old} new h = rw (outcome-refused a new old (still-refused q e h), e)
 
 module _ (s : Shape) (cells scales : ℕ) where
   -- a reply of the room decides before the refusals of the call, and hands on to them
   pub room-refused : (b : List Refusal) {r n : ℕ} → r ≡ lowest (roomRefusals s cells scales) → n ≡ r → (n ≡ 0 → ⊥)
       → r ≡ lowest (roomRefusals s cells scales ++ b)
-  room-refused b e q h = e ∙ sym (refused-before (roomRefusals s cells scales) b (λ z. h (q ∙ e ∙ z)))
+  room-refused b e q h = e ∙ sym (refused-before (roomRefusals s cells scales) b (still-refused q e h))
 
   pub past-room : (b : List Refusal) {x : ℕ} → lowest (roomRefusals s cells scales) ≡ 0 → x ≡ lowest b
       → x ≡ lowest (roomRefusals s cells scales ++ b)

@@ -31,7 +31,7 @@ pub row-fits : (s : Shape) {d cells scales : ℕ} → limits s ≡ true → d �
     → RowFits (s .format) d cells scales
 row-fits s h e c w =
     let f = limits-facts s h in
-    record { known = f .format-in; small = omega arith; whole = rw e (f .whole-groups); cell-bytes = rw e c; scale-words = rw e w }
+    record { known = f .format-in; whole = rw e (f .whole-groups); cell-bytes = rw e c; scale-words = rw e w }
 
 module _ (s : Shape) (n : ℕ) (inside : limits s ≡ true) where
   module _ (numbers : List ℕ) (e : length numbers ≡ n * width s) where

@@ -9,7 +9,6 @@ use Rattle.cells.specs.Calls.{bytesOf, wordsOf, width, positions}
 -- d numbers with their cells and scale words
 pub record RowFits (format d cells scales : ℕ) : Type 0 where
   pub known : format ≤ 3
-  pub small : d ≤ 256
   pub whole : ofFormat format 0 0 0 (d % 32) ≡ 0
   pub cell-bytes : cells ≡ cellBytes format d
   pub scale-words : scales ≡ scaleWords format d

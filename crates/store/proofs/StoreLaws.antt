@@ -12,7 +12,7 @@ use Rattle.replies.specs.Outcome.{lowest}
 use Rattle.replies.proofs.Refusals.{None, lowest-none}
 use Rattle.shapes.specs.Shape.{cellTotal, scaleTotal, within}
 use Rattle.shapes.proofs.ShapeLaws.{Limits, limits-facts, within-limits, exact-sizes, cell-bytes-most, scale-words-most}
-use Rattle.cells.specs.Calls.{Buffers, bytesOf, wordsOf, width, room}
+use Rattle.cells.specs.Calls.{Buffers, bytesOf, wordsOf, room}
 use Rattle.shapes.specs.declared.Shape.{Shape}
 use Rattle.store.specs.declared.Record.{Record}
 use Rattle.store.specs.Record.{lengthOf, mostOf, goodLengths, positionBytes}
@@ -55,12 +55,6 @@ pub held-in : (r : Record) (l : ℕ) → Sound r → l < r .shape .layers → le
 held-in r l h b =
     let w = sound-limits r h .layers-in in
     rw (lt-ltb l (r .shape .layers) b) at (length-in r l h (omega arith))
-
--- a position has numbers, and not many
-pub width-in : (s : Shape) → within s ≡ true → (0 < width s) × (width s ≤ 16384)
-width-in s h =
-    let b = limits-facts s (within-limits s h) in
-    (mul-le-mul {n₁ = 1} {m₁ = 1} (b .heads-in .0) (b .size-in .0), mul-le-mul (b .heads-in .1) (b .size-in .1))
 
 -- no product on the way to a position's bytes is large
 pub position-bytes-in : (s : Shape) → within s ≡ true → (bytesOf s ≤ 1024) × (wordsOf s ≤ 1024) × (positionBytes s ≤ 655360)

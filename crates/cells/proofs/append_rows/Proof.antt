@@ -1,7 +1,8 @@
 -- The reply decides: refused, both buffers are as they were, and done, the layer has the new rows.
 use borrow.Author.Needs.{needs}
+use Rattle.replies.proofs.Refusals.{still-passed}
 use Rattle.cells.specs.Calls.{appendRowsOf}
-use Rattle.cells.proofs.ReplyLaws.{nothing-refused, call-done, call-refused, append-fits}
+use Rattle.cells.proofs.ReplyLaws.{call-done, call-refused, append-fits}
 use Rattle.cells.proofs.append_rows.Statement.{statement}
 use Rattle.cells.proofs.append_rows.Tie as tie
 
@@ -14,7 +15,7 @@ number-requires c κs = search needs
 put-in-requires : tie.Need-put-in-requires
 put-in-requires c κs =
     append-fits _ _ _ _ _ _ _
-    (nothing-refused _ (c .before .before .before .before .append-reply .ensures) (c .before .before .before .number .ensures) (c .before .before .if1 .taken))
+    (still-passed (c .before .before .before .number .ensures) (c .before .before .before .before .append-reply .ensures) (c .before .before .if1 .taken))
 
 same-length : tie.Need-same-length
 same-length c = search needs

@@ -1,7 +1,8 @@
 -- The reply decides: refused, the output is as it was, and done, it has the row.
 use borrow.Author.Needs.{needs}
+use Rattle.replies.proofs.Refusals.{still-passed}
 use Rattle.cells.specs.Calls.{readRowOf}
-use Rattle.cells.proofs.ReplyLaws.{nothing-refused, call-done, call-refused, read-fits}
+use Rattle.cells.proofs.ReplyLaws.{call-done, call-refused, read-fits}
 use Rattle.cells.proofs.read_row.Statement.{statement}
 use Rattle.cells.proofs.read_row.Tie as tie
 
@@ -14,7 +15,7 @@ number-requires c κs = search needs
 get-at-requires : tie.Need-get-at-requires
 get-at-requires c κs =
     read-fits _ _ _ _ _ _ _ _ _
-    (nothing-refused _ (c .before .before .before .read-reply .ensures) (c .before .before .number .ensures) (c .before .if1 .taken))
+    (still-passed (c .before .before .number .ensures) (c .before .before .before .read-reply .ensures) (c .before .if1 .taken))
 
 same-length : tie.Need-same-length
 same-length c = search needs

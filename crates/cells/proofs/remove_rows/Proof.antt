@@ -1,7 +1,8 @@
 -- The reply decides: refused, both buffers are as they were, and done, the layer's positions are zeros.
 use borrow.Author.Needs.{needs}
+use Rattle.replies.proofs.Refusals.{still-passed}
 use Rattle.cells.specs.Calls.{removeRowsOf}
-use Rattle.cells.proofs.ReplyLaws.{nothing-refused, call-done, call-refused, remove-fits}
+use Rattle.cells.proofs.ReplyLaws.{call-done, call-refused, remove-fits}
 use Rattle.cells.proofs.remove_rows.Statement.{statement}
 use Rattle.cells.proofs.remove_rows.Tie as tie
 
@@ -14,7 +15,7 @@ number-requires c κs = search needs
 clear-in-requires : tie.Need-clear-in-requires
 clear-in-requires c κs =
     remove-fits _ _ _ _ _
-    (nothing-refused _ (c .before .before .before .before .remove-reply .ensures) (c .before .before .before .number .ensures) (c .before .before .if1 .taken))
+    (still-passed (c .before .before .before .number .ensures) (c .before .before .before .before .remove-reply .ensures) (c .before .before .if1 .taken))
 
 same-length : tie.Need-same-length
 same-length c = search needs

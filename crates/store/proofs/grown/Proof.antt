@@ -1,6 +1,7 @@
 -- The shape is inside the limits, and the new length is at most the capacity.
 use native.Mathlib.Omega.{arith}
-use Rattle.store.proofs.StoreLaws.{width-in}
+use Rattle.shapes.proofs.ShapeLaws.{within-limits}
+use Rattle.cells.proofs.SizeLaws.{width-in}
 use borrow.Author.Needs.{needs}
 use Rattle.store.proofs.grown.Statement.{statement}
 use Rattle.store.proofs.grown.Tie as tie
@@ -12,10 +13,10 @@ cast-width-2 : tie.Need-cast-width-2
 cast-width-2 c = search needs
 
 mul-width : tie.Need-mul-width
-mul-width c = let w = width-in (c .before .before .args .«record» .shape) (c .before .before .pre .in-shape) in record { fits = omega arith }
+mul-width c = let w = width-in (c .before .before .args .«record» .shape) (within-limits _ (c .before .before .pre .in-shape)) in record { fits = omega arith }
 
 div-with-length : tie.Need-div-with-length
-div-with-length c = width-in (c .before .before .args .«record» .shape) (c .before .before .pre .in-shape) .0
+div-with-length c = width-in (c .before .before .args .«record» .shape) (within-limits _ (c .before .before .pre .in-shape)) .0
 
 cast-with-length : tie.Need-cast-with-length
 cast-with-length c = search needs
