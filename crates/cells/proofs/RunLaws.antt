@@ -10,9 +10,9 @@ use lib.ListN.{length}
 use Rattle.lists.specs.Chunks.{part}
 use Rattle.lists.proofs.Part.{room, room-in, part-length}
 use Rattle.shapes.specs.declared.Shape.{Shape}
-use Rattle.shapes.specs.Shape.{headSize, limits}
+use Rattle.shapes.specs.Shape.{headSize, bytesOf, wordsOf, width, limits}
 use Rattle.shapes.proofs.ShapeLaws.{limits-facts}
-use Rattle.cells.specs.Calls.{bytesOf, wordsOf, width, headNumbers, sideOf, cellRow, scaleRow}
+use Rattle.cells.specs.Calls.{headNumbers, sideOf, cellRow, scaleRow}
 use Rattle.cells.specs.Fits.{RowFits}
 use Rattle.cells.proofs.LayerLaws.{SideRows, LayerRows}
 use Rattle.cells.proofs.RowLaws.{row-cells-length, row-scales-length}

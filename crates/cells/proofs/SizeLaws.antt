@@ -7,10 +7,9 @@ use native.Mathlib.Omega.{arith}
 use native.Mathlib.Nat.{mul-le-mul, mul-le-mul-right, mul-assoc, mul-left-comm, add-mul, div-add-mod'}
 use Rattle.lists.proofs.Part.{room}
 use Rattle.shapes.specs.declared.Shape.{Shape}
-use Rattle.shapes.specs.Shape.{total, limits}
+use Rattle.shapes.specs.Shape.{bytesOf, wordsOf, total, limits}
 use Rattle.shapes.proofs.ShapeLaws.{limits-facts, cell-bytes-most, scale-words-most, total-small}
 use Rattle.cells.specs.Layer.{layerSize}
-use Rattle.cells.specs.Calls.{bytesOf, wordsOf, width}
 use Rattle.cells.specs.Fits.{InRoom, RowIn}
 
 -- a row is small, and so are the products that make a layer's size
@@ -34,10 +33,6 @@ cells-small s h e = sizes-small s _ h (cells-most s h e)
 
 pub words-small : (s : Shape) {r : ℕ} → limits s ≡ true → r ≡ wordsOf s → Small s r
 words-small s h e = sizes-small s _ h (words-most s h e)
-
--- a position has a number, and not many
-pub width-in : (s : Shape) → limits s ≡ true → (1 ≤ width s) × (width s ≤ 16384)
-width-in s h = let f = limits-facts s h in (mul-le-mul (f .heads-in .0) (f .size-in .0), mul-le-mul (f .heads-in .1) (f .size-in .1))
 
 -- numbers of whole positions
 pub whole-positions : (w numbers : ℕ) → numbers % w ≡ 0 → numbers ≡ numbers / w * w

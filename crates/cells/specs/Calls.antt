@@ -6,17 +6,10 @@ use lib.Dec.{eqb, ltb, leb}
 use lib.ListN.{length}
 use Rattle.lists.specs.Chunks.{part}
 use Rattle.replies.specs.Outcome.{Refusal, _when_, Outcome, outcome}
-use Rattle.shapes.specs.Shape.{headSize, cellBytes, scaleWords, roomRefusals}
+use Rattle.shapes.specs.Shape.{headSize, bytesOf, wordsOf, width, roomRefusals}
 use Rattle.shapes.specs.declared.Shape.{Shape}
 use Rattle.cells.specs.Row.{rowCells, rowScales, rowNumbers}
 use Rattle.cells.specs.Layer.{written, zeros, place}
-
--- B and S of a shape
-abbrev pub bytesOf : Shape → ℕ
-bytesOf s = cellBytes (s .format) (headSize s)
-
-abbrev pub wordsOf : Shape → ℕ
-wordsOf s = scaleWords (s .format) (headSize s)
 
 pub record Buffers : Type 0 where
   pub cells : List ℕ
@@ -25,10 +18,7 @@ pub record Buffers : Type 0 where
 abbrev pub buffers : List ℕ → List ℕ → Buffers
 buffers c s = record { cells = c; scales = s }
 
--- the numbers of one position, and the positions that so many numbers are
-abbrev pub width : Shape → ℕ
-width s = s .heads * headSize s
-
+-- the positions that so many numbers are
 abbrev pub positions : Shape → ℕ → ℕ
 positions s numbers = numbers / width s
 

@@ -2,9 +2,9 @@
 use mathlib.Core.Path.{_≡_}
 use mathlib.Core.Bool.{true}
 use Prim.Native.Nat.{ℕ, _+_, _*_, _%_, _≤_, _<_}
-use Rattle.shapes.specs.Shape.{headSize, ofFormat, cellBytes, scaleWords, cellTotal, scaleTotal, limits}
+use Rattle.shapes.specs.Shape.{headSize, ofFormat, cellBytes, scaleWords, bytesOf, wordsOf, width, cellTotal, scaleTotal, limits}
 use Rattle.shapes.specs.declared.Shape.{Shape}
-use Rattle.cells.specs.Calls.{bytesOf, wordsOf, width, positions}
+use Rattle.cells.specs.Calls.{positions}
 
 -- d numbers with their cells and scale words
 pub record RowFits (format d cells scales : ℕ) : Type 0 where

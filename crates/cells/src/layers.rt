@@ -7,8 +7,9 @@ ghost use mathlib.Core.Path.{_≡_};
 ghost use Prim.Native.Nat.{_*_, _<_};
 ghost use lib.ListN.{length, replicate};
 ghost use Rattle.lists.specs.Chunks.{joined};
+ghost use Rattle.shapes.specs.Shape.{bytesOf, wordsOf, width};
 ghost use Rattle.cells.specs.Layer.{blockSize, sideSize, layerSize, put, putSide, putLayer, zeros};
-ghost use Rattle.cells.specs.Calls.{bytesOf, wordsOf, width, sideOf, cellRow, scaleRow};
+ghost use Rattle.cells.specs.Calls.{sideOf, cellRow, scaleRow};
 ghost use Rattle.cells.specs.Fits.{Fits, RowsFit};
 
 // Keys and values into positions `p` to `p + n - 1` of a layer.

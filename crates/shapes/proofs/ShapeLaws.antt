@@ -9,7 +9,7 @@ use lib.Dec.{eqb, leb}
 use borrow.Author.Tests.{leb-true, eqb-true}
 use Rattle.replies.proofs.Flags.{both}
 use Rattle.shapes.specs.declared.Shape.{Shape}
-use Rattle.shapes.specs.Shape.{headSize, ofFormat, cellBytes, scaleWords, total, cellTotal, scaleTotal, upTo, limits, within, exact}
+use Rattle.shapes.specs.Shape.{headSize, ofFormat, cellBytes, scaleWords, bytesOf, wordsOf, width, cellTotal, scaleTotal, upTo, limits, within, exact}
 
 -- the limits, as facts
 pub record Limits (s : Shape) : Type 0 where
@@ -59,13 +59,17 @@ unfolding ofFormat
 of-format P format a b d e pa pb pd pe = pick P (eqb format 0) pa (pick P (eqb format 1) pb (pick P (eqb format 2) pd pe))
 
 -- a row has no more than 1,024 cells, and no more than 8 scale words
-pub cell-bytes-most : (s : Shape) → Limits s → cellBytes (s .format) (headSize s) ≤ 1024
+pub cell-bytes-most : (s : Shape) → Limits s → bytesOf s ≤ 1024
 unfolding cellBytes
 cell-bytes-most s h = of-format (λ x. x ≤ 1024) (s .format) _ _ _ _ (omega arith) (omega arith) (omega arith) (omega arith)
 
-pub scale-words-most : (s : Shape) → Limits s → scaleWords (s .format) (headSize s) ≤ 1024
+pub scale-words-most : (s : Shape) → Limits s → wordsOf s ≤ 1024
 unfolding scaleWords
 scale-words-most s h = of-format (λ x. x ≤ 1024) (s .format) _ _ _ _ (omega arith) (omega arith) (omega arith) (omega arith)
+
+-- a position has a number, and not many
+pub width-in : (s : Shape) → limits s ≡ true → (1 ≤ width s) × (width s ≤ 16384)
+width-in s h = let f = limits-facts s h in (mul-le-mul (f .heads-in .0) (f .size-in .0), mul-le-mul (f .heads-in .1) (f .size-in .1))
 
 -- no product on the way to a total is large
 pub total-small : (s : Shape) (b : ℕ) → Limits s → b ≤ 1024

@@ -22,15 +22,25 @@ cellBytes format d = ofFormat format (4 * d) (2 * d) d (d / 2)
 unfoldable pub scaleWords : ℕ → ℕ → ℕ
 scaleWords format d = ofFormat format 0 0 1 (d / 32)
 
+-- B and S of a shape, and the numbers of one position
+abbrev pub bytesOf : Shape → ℕ
+bytesOf s = cellBytes (s .format) (headSize s)
+
+abbrev pub wordsOf : Shape → ℕ
+wordsOf s = scaleWords (s .format) (headSize s)
+
+abbrev pub width : Shape → ℕ
+width s = s .heads * headSize s
+
 -- all elements of a buffer: b for each position, head, side and layer
 unfoldable pub total : ℕ → Shape → ℕ
 total b s = 2 * s .layers * s .heads * s .capacity * b
 
 abbrev pub cellTotal : Shape → ℕ
-cellTotal s = total (cellBytes (s .format) (headSize s)) s
+cellTotal s = total (bytesOf s) s
 
 abbrev pub scaleTotal : Shape → ℕ
-scaleTotal s = total (scaleWords (s .format) (headSize s)) s
+scaleTotal s = total (wordsOf s) s
 
 -- 1 to most
 abbrev pub upTo : ℕ → ℕ → Bool

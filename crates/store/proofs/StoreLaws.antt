@@ -1,7 +1,7 @@
 -- What the refusals of a store tell of its record, and the bytes of its layers.
 -- Each holds by the tests that make up the refusals, one by one.
 use mathlib.Core.Path.{_≡_, refl}
-use mathlib.Core.Bool.{true, not}
+use mathlib.Core.Bool.{true}
 use Prim.Native.Nat.{ℕ, _+_, _*_, _≤_, _<_}
 use native.Mathlib.Nat.{mul-le-mul}
 use native.Mathlib.Omega.{arith}
@@ -10,9 +10,9 @@ use borrow.Author.Tests.{ltb-false, lt-ltb, not-true, not-false}
 use Rattle.lists.proofs.Some.{some-none}
 use Rattle.replies.specs.Outcome.{lowest}
 use Rattle.replies.proofs.Refusals.{None, lowest-none}
-use Rattle.shapes.specs.Shape.{cellTotal, scaleTotal, within}
+use Rattle.shapes.specs.Shape.{bytesOf, wordsOf, cellTotal, scaleTotal, within}
 use Rattle.shapes.proofs.ShapeLaws.{Limits, limits-facts, within-limits, exact-sizes, cell-bytes-most, scale-words-most}
-use Rattle.cells.specs.Calls.{Buffers, bytesOf, wordsOf, room}
+use Rattle.cells.specs.Calls.{Buffers, room}
 use Rattle.shapes.specs.declared.Shape.{Shape}
 use Rattle.store.specs.declared.Record.{Record}
 use Rattle.store.specs.Record.{lengthOf, mostOf, goodLengths, positionBytes}

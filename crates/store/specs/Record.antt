@@ -5,8 +5,8 @@ use mathlib.Core.Bool.{Bool, true, cond, not}
 use lib.Dec.{ltb}
 use lib.ListN.{getD, set, replicate}
 use Rattle.lists.specs.Chunks.{turns, some}
-use Rattle.cells.specs.Calls.{bytesOf, wordsOf, positions}
-use Rattle.shapes.specs.Shape.{within}
+use Rattle.cells.specs.Calls.{positions}
+use Rattle.shapes.specs.Shape.{bytesOf, wordsOf, within}
 use Rattle.shapes.specs.declared.Shape.{Shape}
 use Rattle.store.specs.declared.Record.{Record}
 

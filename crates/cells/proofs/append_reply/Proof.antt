@@ -7,8 +7,8 @@ use borrow.Author.Needs.{needs}
 use borrow.Author.Tests.{lt-ltb, le-ltb, eq-eqb, ne-eqb}
 use Rattle.replies.specs.Outcome.{lowest}
 use Rattle.shapes.specs.Shape.{roomRefusals}
+use Rattle.shapes.proofs.ShapeLaws.{width-in}
 use Rattle.cells.specs.Calls.{appendRefusals}
-use Rattle.cells.proofs.SizeLaws.{width-in}
 use Rattle.cells.proofs.ReplyLaws.{held-over, new-over, new-within, room-refused, past-room, room-limits}
 use Rattle.cells.proofs.append_reply.Statement.{statement}
 use Rattle.cells.proofs.append_reply.Tie as tie

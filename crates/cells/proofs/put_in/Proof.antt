@@ -2,9 +2,11 @@
 use mathlib.Core.Path.{refl, _∙_}
 use native.Mathlib.Omega.{arith}
 use borrow.Author.Needs.{needs}
-use Rattle.cells.specs.Calls.{bytesOf, wordsOf, positions, sideOf, cellRow, scaleRow, appended}
+use Rattle.shapes.specs.Shape.{bytesOf, wordsOf}
+use Rattle.shapes.proofs.ShapeLaws.{width-in}
+use Rattle.cells.specs.Calls.{positions, sideOf, cellRow, scaleRow, appended}
 use lib.ListN.{length}
-use Rattle.cells.proofs.SizeLaws.{cells-most, words-most, width-in, whole-positions, lent-count}
+use Rattle.cells.proofs.SizeLaws.{cells-most, words-most, whole-positions, lent-count}
 use Rattle.cells.proofs.LentLaws.{Within, within, written-lent, buffers-alike}
 use Rattle.cells.proofs.put_in.Statement.{statement}
 use Rattle.cells.proofs.put_in.Tie as tie

@@ -1,7 +1,6 @@
 -- The shape is inside the limits, and the new length is at most the capacity.
 use native.Mathlib.Omega.{arith}
-use Rattle.shapes.proofs.ShapeLaws.{within-limits}
-use Rattle.cells.proofs.SizeLaws.{width-in}
+use Rattle.shapes.proofs.ShapeLaws.{within-limits, width-in}
 use borrow.Author.Needs.{needs}
 use Rattle.store.proofs.grown.Statement.{statement}
 use Rattle.store.proofs.grown.Tie as tie

@@ -4,8 +4,8 @@ use native.Mathlib.Nat.{zero-add}
 use native.Mathlib.Omega.{arith}
 use borrow.Author.Needs.{needs}
 use lib.ListN.{length-replicate}
+use Rattle.shapes.specs.Shape.{bytesOf, wordsOf}
 use Rattle.cells.specs.Layer.{zeros}
-use Rattle.cells.specs.Calls.{bytesOf, wordsOf}
 use Rattle.cells.proofs.SizeLaws.{Small, cells-small, words-small, lent-count}
 use Rattle.cells.proofs.LentLaws.{Sides, side-same, sides-in, sides-lent}
 use Rattle.cells.proofs.layers.clear_layer.Statement.{statement}

@@ -7,8 +7,8 @@ use borrow.Author.Count.{falls}
 use borrow.Author.Needs.{needs}
 use lib.ListN.{length, length-replicate}
 use Rattle.lists.specs.Chunks.{each}
+use Rattle.shapes.specs.Shape.{bytesOf, wordsOf}
 use Rattle.cells.specs.Layer.{blockSize, put, putSide, zeros}
-use Rattle.cells.specs.Calls.{bytesOf, wordsOf}
 use Rattle.cells.proofs.SizeLaws.{cells-small, words-small, lent-count}
 use Rattle.cells.proofs.ChunkLaws.{Heads, heads, chunks-done, chunk-in, chunk-turn}
 use Rattle.cells.proofs.layers.clear_side.Statement.{statement}

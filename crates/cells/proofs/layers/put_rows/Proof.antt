@@ -5,9 +5,10 @@ use native.Mathlib.Omega.{arith}
 use borrow.Author.Needs.{needs}
 use lib.ListN.{length}
 use Rattle.lists.specs.Chunks.{part, each}
-use Rattle.shapes.specs.Shape.{headSize}
-use Rattle.cells.specs.Calls.{bytesOf, wordsOf, width, headNumbers, cellRow, scaleRow}
-use Rattle.cells.proofs.SizeLaws.{width-in, lent-count}
+use Rattle.shapes.specs.Shape.{headSize, bytesOf, wordsOf, width}
+use Rattle.shapes.proofs.ShapeLaws.{width-in}
+use Rattle.cells.specs.Calls.{headNumbers, cellRow, scaleRow}
+use Rattle.cells.proofs.SizeLaws.{lent-count}
 use Rattle.cells.proofs.ChunkLaws.{Rows, rows-of, rows-done, chunk-in, chunk-turn}
 use Rattle.cells.proofs.RunLaws.{numbers-in, run-lent, row-fits, cell-rows, scale-rows}
 use Rattle.cells.proofs.layers.put_rows.Statement.{statement}

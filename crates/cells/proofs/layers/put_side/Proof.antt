@@ -7,8 +7,9 @@ use borrow.Author.Count.{falls}
 use borrow.Author.Needs.{needs}
 use lib.ListN.{length}
 use Rattle.lists.specs.Chunks.{each}
+use Rattle.shapes.specs.Shape.{bytesOf, wordsOf}
 use Rattle.cells.specs.Layer.{blockSize, put, putSide}
-use Rattle.cells.specs.Calls.{bytesOf, wordsOf, cellRow, scaleRow}
+use Rattle.cells.specs.Calls.{cellRow, scaleRow}
 use Rattle.cells.proofs.SizeLaws.{cells-small, words-small, lent-count}
 use Rattle.cells.proofs.ChunkLaws.{Heads, heads, chunks-done, chunk-in, chunk-turn}
 use Rattle.cells.proofs.RunLaws.{cell-rows, scale-rows}
