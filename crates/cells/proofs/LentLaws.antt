@@ -8,7 +8,7 @@ use native.Mathlib.Omega.{arith}
 use lib.ListN.{length, take, drop, replicate}
 use lib.Seq.{take-at, drop-at, length-take-le}
 use Rattle.lists.specs.Chunks.{part, joined, each}
-use Rattle.lists.proofs.Part.{part-length}
+use Rattle.lists.proofs.Part.{lent-count, part-length}
 use Rattle.lists.proofs.At.{at-lent}
 use Rattle.lists.proofs.Joined.{joined-replicate}
 use Rattle.shapes.specs.declared.Shape.{Shape}
@@ -16,7 +16,7 @@ use Rattle.shapes.specs.Shape.{headSize, bytesOf, wordsOf, total}
 use Rattle.cells.specs.Row.{rowNumbers}
 use Rattle.cells.specs.Layer.{sideSize, layerSize, put, putSide, putLayer, written, place}
 use Rattle.cells.specs.Calls.{buffers, rowAt}
-use Rattle.cells.proofs.SizeLaws.{lent-count, layer-in, rowOf}
+use Rattle.cells.proofs.SizeLaws.{layer-in, rowOf}
 use Rattle.cells.proofs.LayerLaws.{LayerRows, side-keeps}
 
 -- what positions p to p + n - 1 of a block l leave that were lent as `&mut l[p * r..e]`, where r is b: rows written, or zeros

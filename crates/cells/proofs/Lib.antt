@@ -6,4 +6,3 @@ pub mod ReplyLaws
 pub mod RowLaws
 pub mod RunLaws
 pub mod SizeLaws
-mod Writes

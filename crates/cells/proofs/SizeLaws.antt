@@ -2,7 +2,7 @@
 -- Each holds by the limits or by the laws of products.
 use mathlib.Core.Path.{_≡_}
 use mathlib.Core.Bool.{true}
-use Prim.Native.Nat.{ℕ, _+_, _-_, _*_, _/_, _%_, _≤_, _<_}
+use Prim.Native.Nat.{ℕ, _+_, _*_, _/_, _%_, _≤_, _<_}
 use native.Mathlib.Omega.{arith}
 use native.Mathlib.Nat.{mul-le-mul, mul-le-mul-right, mul-assoc, mul-left-comm, add-mul, div-add-mod'}
 use Rattle.lists.proofs.Part.{room}
@@ -37,10 +37,6 @@ words-small s h e = sizes-small s _ h (words-most s h e)
 -- numbers of whole positions
 pub whole-positions : (w numbers : ℕ) → numbers % w ≡ 0 → numbers ≡ numbers / w * w
 whole-positions w numbers h = omega (arith, div-add-mod' numbers w)
-
--- a part lent as `[a..e]` has r elements, which are k
-pub lent-count : (a : ℕ) {e r k : ℕ} → a + r ≡ e → r ≡ k → e - a ≡ k
-lent-count a q h = omega arith
 
 -- rows p to p + n - 1 lie within m of them, where each has r elements and r is b
 pub span-in : (b p n m : ℕ) {r size : ℕ} → r ≡ b → size ≡ m * b → p + n ≤ m → p * r + n * r ≤ size

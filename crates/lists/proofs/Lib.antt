@@ -1,6 +1,7 @@
 pub mod At
 pub mod Each
 pub mod Joined
+pub mod Loop
 pub mod Part
 pub mod Regroup
 pub mod Some

@@ -16,6 +16,10 @@ room k {n} {m} h = omega (arith, mul-le-mul-right {m = suc n} k h, suc-mul n k)
 pub room-in : (k : ℕ) {n m i : ℕ} → n < m → i ≤ k → n * k + i ≤ m * k
 room-in k h b = omega (arith, room k h)
 
+-- a part lent as `[a..e]` has r elements, which are k
+pub lent-count : (a : ℕ) {e r k : ℕ} → a + r ≡ e → r ≡ k → e - a ≡ k
+lent-count a q h = omega arith
+
 module _ {A : Type 0} where
   -- f takes k elements to k elements
   abbrev pub Keeps : ℕ → (List A → List A) → Type 0

@@ -3,9 +3,10 @@ use mathlib.Core.Path.{_≡_, refl, _∙_}
 use Prim.Native.Nat.{_-_}
 use native.Mathlib.Omega.{arith}
 use borrow.Author.Needs.{needs}
+use Rattle.lists.proofs.Part.{lent-count}
 use Rattle.shapes.specs.Shape.{bytesOf, wordsOf}
 use Rattle.cells.specs.Calls.{removed}
-use Rattle.cells.proofs.SizeLaws.{cells-most, words-most, lent-count}
+use Rattle.cells.proofs.SizeLaws.{cells-most, words-most}
 use Rattle.cells.proofs.LayerLaws.{written-none}
 use Rattle.cells.proofs.LentLaws.{Within, within, written-lent, buffers-alike}
 use Rattle.cells.proofs.clear_in.Statement.{statement}

@@ -4,7 +4,8 @@ use Prim.Native.Nat.{_+_, _*_, _≤_, _<_}
 use native.Mathlib.Omega.{arith}
 use borrow.Author.Needs.{needs}
 use lib.ListN.{length}
-use Rattle.cells.proofs.SizeLaws.{lent-count, rowOf, row-small, row-in}
+use Rattle.lists.proofs.Part.{lent-count}
+use Rattle.cells.proofs.SizeLaws.{rowOf, row-small, row-in}
 use Rattle.cells.proofs.LentLaws.{row-read}
 use Rattle.cells.proofs.RunLaws.{row-fits}
 use Rattle.cells.proofs.get_at.Statement.{statement}

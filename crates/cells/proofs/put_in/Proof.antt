@@ -2,11 +2,12 @@
 use mathlib.Core.Path.{refl, _∙_}
 use native.Mathlib.Omega.{arith}
 use borrow.Author.Needs.{needs}
+use Rattle.lists.proofs.Part.{lent-count}
 use Rattle.shapes.specs.Shape.{bytesOf, wordsOf}
 use Rattle.shapes.proofs.ShapeLaws.{width-in}
 use Rattle.cells.specs.Calls.{positions, sideOf, cellRow, scaleRow, appended}
 use lib.ListN.{length}
-use Rattle.cells.proofs.SizeLaws.{cells-most, words-most, whole-positions, lent-count}
+use Rattle.cells.proofs.SizeLaws.{cells-most, words-most, whole-positions}
 use Rattle.cells.proofs.LentLaws.{Within, within, written-lent, buffers-alike}
 use Rattle.cells.proofs.put_in.Statement.{statement}
 use Rattle.cells.proofs.put_in.Tie as tie

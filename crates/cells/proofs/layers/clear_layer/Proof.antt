@@ -4,9 +4,10 @@ use native.Mathlib.Nat.{zero-add}
 use native.Mathlib.Omega.{arith}
 use borrow.Author.Needs.{needs}
 use lib.ListN.{length-replicate}
+use Rattle.lists.proofs.Part.{lent-count}
 use Rattle.shapes.specs.Shape.{bytesOf, wordsOf}
 use Rattle.cells.specs.Layer.{zeros}
-use Rattle.cells.proofs.SizeLaws.{Small, cells-small, words-small, lent-count}
+use Rattle.cells.proofs.SizeLaws.{Small, cells-small, words-small}
 use Rattle.cells.proofs.LentLaws.{Sides, side-same, sides-in, sides-lent}
 use Rattle.cells.proofs.layers.clear_layer.Statement.{statement}
 use Rattle.cells.proofs.layers.clear_layer.Tie as tie

@@ -4,7 +4,8 @@ use Prim.Native.Nat.{_+_, _*_, _≤_}
 use native.Mathlib.Omega.{arith}
 use borrow.Author.Needs.{needs}
 use lib.ListN.{length}
-use Rattle.cells.proofs.SizeLaws.{lent-count, span-in}
+use Rattle.lists.proofs.Part.{lent-count}
+use Rattle.cells.proofs.SizeLaws.{span-in}
 use Rattle.cells.proofs.LentLaws.{put-lent}
 use Rattle.cells.proofs.layers.put_block.Statement.{statement}
 use Rattle.cells.proofs.layers.put_block.Tie as tie

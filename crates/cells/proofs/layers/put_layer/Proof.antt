@@ -3,9 +3,10 @@ use mathlib.Core.Path.{refl, _∙_}
 use native.Mathlib.Nat.{zero-add}
 use native.Mathlib.Omega.{arith}
 use borrow.Author.Needs.{needs}
+use Rattle.lists.proofs.Part.{lent-count}
 use Rattle.shapes.specs.Shape.{bytesOf, wordsOf}
 use Rattle.cells.specs.Calls.{sideOf, cellRow, scaleRow}
-use Rattle.cells.proofs.SizeLaws.{Small, cells-small, words-small, lent-count}
+use Rattle.cells.proofs.SizeLaws.{Small, cells-small, words-small}
 use Rattle.cells.proofs.LentLaws.{Sides, side-same, sides-in, sides-lent}
 use Rattle.cells.proofs.RunLaws.{cell-layer, scale-layer}
 use Rattle.cells.proofs.layers.put_layer.Statement.{statement}

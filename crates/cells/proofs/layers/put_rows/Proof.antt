@@ -5,22 +5,19 @@ use native.Mathlib.Omega.{arith}
 use borrow.Author.Needs.{needs}
 use lib.ListN.{length}
 use Rattle.lists.specs.Chunks.{part, each}
+use Rattle.lists.proofs.Part.{lent-count}
+use Rattle.lists.proofs.Loop.{Passed, chunk-in, chunk-turn, over-done}
 use Rattle.shapes.specs.Shape.{headSize, bytesOf, wordsOf, width}
 use Rattle.shapes.proofs.ShapeLaws.{width-in}
 use Rattle.cells.specs.Calls.{headNumbers, cellRow, scaleRow}
-use Rattle.cells.proofs.SizeLaws.{lent-count}
-use Rattle.cells.proofs.ChunkLaws.{Rows, rows-of, rows-done, chunk-in, chunk-turn}
+use Rattle.cells.proofs.ChunkLaws.{Rows, rows-of}
 use Rattle.cells.proofs.RunLaws.{numbers-in, run-lent, row-fits, cell-rows, scale-rows}
 use Rattle.cells.proofs.layers.put_rows.Statement.{statement}
 use Rattle.cells.proofs.layers.put_rows.Tie as tie
 
 abbrev Inv-loop : tie.InvT-loop
 Inv-loop shape h n numbers cells₀ scales₀ d c w width i₀ cells scales i =
-    (i ≤ n)
-    × (cells ≡ each c i (λ j x. cellRow shape numbers h j) cells₀)
-    × (length cells ≡ length cells₀)
-    × (scales ≡ each w i (λ j x. scaleRow shape numbers h j) scales₀)
-    × (length scales ≡ length scales₀)
+    Passed c n (λ j x. cellRow shape numbers h j) cells₀ i cells × Passed w n (λ j x. scaleRow shape numbers h j) scales₀ i scales
 
 abbrev μ-loop : tie.MeasureT-loop
 μ-loop shape h n numbers cells₀ scales₀ d c w width i₀ cells scales i = n - i
@@ -84,7 +81,7 @@ mul-width c = let a = c .before .before .before .before .before .before .before 
 
 loop-holds : tie.Need-loop-holds Inv-loop μ-loop
 unfolding each
-loop-holds c = (omega arith, refl, refl, refl, refl)
+loop-holds c = ((omega arith, refl, refl), (omega arith, refl, refl))
 
 mul-from : tie.Need-mul-from Inv-loop μ-loop
 mul-from c = omega (arith, run-in c)
@@ -161,10 +158,10 @@ loop-less c = search needs
 loop-again : tie.Need-loop-again Inv-loop μ-loop
 loop-again c =
     let l = c .before .before .before .before .before .before .before .before .before in
-    let y = c .before .before .before .before .put-row .ensures in
-    let a = chunk-turn (cells-rows l) (l .loop .i) (l .loop .inv .1) (omega arith) refl (y .0 ∙ rw (run l)) in
-    let b = chunk-turn (words-rows l) (l .loop .i) (l .loop .inv .3) (omega arith) refl (y .1 ∙ rw (run l)) in
-    (omega arith, a, omega arith, b, omega arith)
+    let y = c .before .before .before .before .put-row .ensures in (
+      chunk-turn (cells-rows l) (l .loop .inv .0) (omega arith) refl (y .0 ∙ rw (run l)),
+      chunk-turn (words-rows l) (l .loop .inv .1) (omega arith) refl (y .1 ∙ rw (run l)),
+    )
 
 same-length : tie.Need-same-length Inv-loop μ-loop
 same-length c = search needs
@@ -175,7 +172,7 @@ same-length-2 c = search needs
 returns : tie.Need-returns Inv-loop μ-loop
 returns c =
     let l = c .before in
-    (rows-done _ _ _ _ (cells-rows l) (l .loop .i) (l .loop .inv .1) (omega arith), rows-done _ _ _ _ (words-rows l) (l .loop .i) (l .loop .inv .3) (omega arith))
+    (over-done (cells-rows l) (l .loop .inv .0) (omega arith), over-done (words-rows l) (l .loop .inv .1) (omega arith))
 
 pub put-rows-spec : {M : Type 1} → statement M
 put-rows-spec =

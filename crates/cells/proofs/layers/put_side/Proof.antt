@@ -1,5 +1,5 @@
 -- The heads passed have their rows, and each turn lends one head's block.
-use mathlib.Core.Path.{_≡_, refl, _∙_}
+use mathlib.Core.Path.{refl, _∙_}
 use Prim.Native.Nat.{_+_, _-_, _*_, _≤_}
 use native.Mathlib.Nat.{le-add-right}
 use native.Mathlib.Omega.{arith}
@@ -7,22 +7,21 @@ use borrow.Author.Count.{falls}
 use borrow.Author.Needs.{needs}
 use lib.ListN.{length}
 use Rattle.lists.specs.Chunks.{each}
+use Rattle.lists.proofs.Part.{lent-count}
+use Rattle.lists.proofs.Loop.{Passed, chunk-in, chunk-turn}
 use Rattle.shapes.specs.Shape.{bytesOf, wordsOf}
-use Rattle.cells.specs.Layer.{blockSize, put, putSide}
+use Rattle.cells.specs.Layer.{blockSize, put}
 use Rattle.cells.specs.Calls.{cellRow, scaleRow}
-use Rattle.cells.proofs.SizeLaws.{cells-small, words-small, lent-count}
-use Rattle.cells.proofs.ChunkLaws.{Heads, heads, chunks-done, chunk-in, chunk-turn}
+use Rattle.cells.proofs.SizeLaws.{cells-small, words-small}
+use Rattle.cells.proofs.ChunkLaws.{Heads, heads, heads-done}
 use Rattle.cells.proofs.RunLaws.{cell-rows, scale-rows}
 use Rattle.cells.proofs.layers.put_side.Statement.{statement}
 use Rattle.cells.proofs.layers.put_side.Tie as tie
 
 abbrev Inv-loop : tie.InvT-loop
 Inv-loop shape p n numbers cells₀ scales₀ c w h₀ cells scales h =
-    (h ≤ shape .heads)
-    × (cells ≡ each c h (λ j. put (bytesOf shape) p n (cellRow shape numbers j)) cells₀)
-    × (length cells ≡ length cells₀)
-    × (scales ≡ each w h (λ j. put (wordsOf shape) p n (scaleRow shape numbers j)) scales₀)
-    × (length scales ≡ length scales₀)
+    Passed c (shape .heads) (λ j. put (bytesOf shape) p n (cellRow shape numbers j)) cells₀ h cells
+    × Passed w (shape .heads) (λ j. put (wordsOf shape) p n (scaleRow shape numbers j)) scales₀ h scales
 
 abbrev μ-loop : tie.MeasureT-loop
 μ-loop shape p n numbers cells₀ scales₀ c w h₀ cells scales h = shape .heads - h
@@ -53,12 +52,12 @@ words-side c =
 cells-in : (c : tie.Then1 Inv-loop μ-loop)
     → let l = c .before .before in
     let r = blockSize (l .before .before .before .cell-bytes .result) (start l .args .shape) in l .loop .h * r + r ≤ length (l .loop .cells)
-cells-in c = let l = c .before .before in rw (l .loop .inv .2) (chunk-in (cells-side l) (c .if1 .taken))
+cells-in c = let l = c .before .before in rw (l .loop .inv .0 .2) (chunk-in (cells-side l) (c .if1 .taken))
 
 words-in : (c : tie.Then1 Inv-loop μ-loop)
     → let l = c .before .before in
     let r = blockSize (l .before .scale-words .result) (start l .args .shape) in l .loop .h * r + r ≤ length (l .loop .scales)
-words-in c = let l = c .before .before in rw (l .loop .inv .4) (chunk-in (words-side l) (c .if1 .taken))
+words-in c = let l = c .before .before in rw (l .loop .inv .1 .2) (chunk-in (words-side l) (c .if1 .taken))
 
 cast-c : tie.Need-cast-c Inv-loop μ-loop
 cast-c c = search needs
@@ -83,7 +82,7 @@ mul-w c =
 
 loop-holds : tie.Need-loop-holds Inv-loop μ-loop
 unfolding each
-loop-holds c = (omega arith, refl, refl, refl, refl)
+loop-holds c = ((omega arith, refl, refl), (omega arith, refl, refl))
 
 cast-if1 : tie.Need-cast-if1 Inv-loop μ-loop
 cast-if1 c = search needs
@@ -128,8 +127,8 @@ put-block-requires c κs =
       record {
         in-limits = a .0 .in-limits;
         span = a .0 .span;
-        cell-size = c .before .put-block-arg .given .2 ∙ lent-count _ refl (cells-side l .size);
-        scale-size = c .put-block-arg2 .given .2 ∙ lent-count _ refl (words-side l .size);
+        cell-size = c .before .put-block-arg .given .2 ∙ lent-count _ refl (rw (l .before .before .before .cell-bytes .ensures));
+        scale-size = c .put-block-arg2 .given .2 ∙ lent-count _ refl (rw (l .before .scale-words .ensures));
       },
       (c .before .before .if1 .taken, a .1),
     )
@@ -145,21 +144,20 @@ loop-again c =
     let l = c .before .before .before .before .before .before .before .before .before in
     let y = c .before .before .before .before .put-block .ensures in
     let w = c .before .before .before .before .before .before .before .if1 .taken in
-    let a = chunk-turn (cells-side l) (l .loop .h) (l .loop .inv .1) w refl (y .0) in
-    let b = chunk-turn (words-side l) (l .loop .h) (l .loop .inv .3) w refl (y .1) in
-    (omega arith, a, omega arith, b, omega arith)
+    (chunk-turn (cells-side l) (l .loop .inv .0) w refl (y .0), chunk-turn (words-side l) (l .loop .inv .1) w refl (y .1))
 
 same-length : tie.Need-same-length Inv-loop μ-loop
-same-length c = c .before .before .loop .inv .2
+same-length c = c .before .before .loop .inv .0 .2
 
 same-length-2 : tie.Need-same-length-2 Inv-loop μ-loop
-same-length-2 c = c .before .before .loop .inv .4
+same-length-2 c = c .before .before .loop .inv .1 .2
 
 returns : tie.Need-returns Inv-loop μ-loop
-unfolding putSide
 returns c =
-    let l = c .before .before in
-    (chunks-done (cells-side l) (l .loop .h) (l .loop .inv .1) (omega arith), chunks-done (words-side l) (l .loop .h) (l .loop .inv .3) (omega arith))
+    let l = c .before .before in (
+      heads-done _ _ _ _ _ _ (l .before .before .before .cell-bytes .ensures) (cells-side l) (l .loop .inv .0) (omega arith),
+      heads-done _ _ _ _ _ _ (l .before .scale-words .ensures) (words-side l) (l .loop .inv .1) (omega arith),
+    )
 
 pub put-side-spec : {M : Type 1} → statement M
 put-side-spec =

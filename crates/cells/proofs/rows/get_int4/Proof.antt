@@ -6,18 +6,18 @@ use native.Mathlib.Omega.{arith}
 use lib.ListN.{length, getD}
 use borrow.Author.Needs.{needs}
 use Rattle.lists.specs.Chunks.{part, each}
+use Rattle.lists.proofs.Loop.{Passed, chunk-turn, over, over-done}
 use Rattle.lists.proofs.Part.{part-length}
 use Rattle.numbers.specs.Word.{float}
 use Rattle.groups.specs.Group.{unpacked}
 use Rattle.groups.proofs.GroupLaws.{unpacked-length}
 use Rattle.cells.specs.Row.{int4Numbers}
 use Rattle.cells.proofs.RowLaws.{unpack-all}
-use Rattle.cells.proofs.Writes.{Written, write-turn, write-done}
 use Rattle.cells.proofs.rows.get_int4.Statement.{statement}
 use Rattle.cells.proofs.rows.get_int4.Tie as tie
 
 abbrev Inv-loop : tie.InvT-loop
-Inv-loop cells scales out₀ g₀ out g = Written 32 (length scales) (λ i. unpacked (part (i * 16) 16 cells) (float (getD scales i 0))) out₀ g out
+Inv-loop cells scales out₀ g₀ out g = Passed 32 (length scales) (λ i x. unpacked (part (i * 16) 16 cells) (float (getD scales i 0))) out₀ g out
 
 abbrev μ-loop : tie.MeasureT-loop
 μ-loop cells scales out₀ g₀ out g = length scales - g
@@ -84,7 +84,7 @@ loop-again c =
     let got = simp (add-sub-cancel-left, c .before .before .before .before .word-to-f32 .ensures) at (c .before .before .unpack-i4-group .ensures .1) in
     let numbers = part-length (loop .g * 32) 32 (loop .out) (omega arith) in
     let bytes = part-length (loop .g * 16) 16 (start .args .cells .now) (omega arith) in
-    write-turn 32 _ _ (start .args .out .now) (start .pre .0) (λ i. unpacked-length _ _) (loop .inv) (omega arith) refl (got ∙ unpack-all _ _ _ numbers bytes)
+    chunk-turn (over (λ i w. unpacked-length _ _) (start .pre .0)) (loop .inv) (omega arith) refl (got ∙ unpack-all _ _ _ numbers bytes)
 
 same-length : tie.Need-same-length Inv-loop μ-loop
 same-length c = search needs
@@ -94,7 +94,7 @@ unfolding int4Numbers
 returns c =
     let start = c .before .before .before .before .before in
     let e : length (start .args .out .now) / 32 ≡ length (start .args .scales .now) = omega arith in
-    rw e (write-done 32 _ _ (start .args .out .now) (start .pre .0) (c .before .loop .inv) (omega arith))
+    rw e (over-done (over (λ i w. unpacked-length _ _) (start .pre .0)) (c .before .loop .inv) (omega arith))
 
 pub get-int4-spec : {M : Type 1} → statement M
 get-int4-spec =

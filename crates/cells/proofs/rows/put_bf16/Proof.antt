@@ -5,15 +5,15 @@ use native.Mathlib.Omega.{arith}
 use lib.ListN.{length, getD, length-take, length-drop}
 use borrow.Author.Needs.{needs}
 use Rattle.lists.specs.Chunks.{each}
+use Rattle.lists.proofs.Loop.{Passed, chunk-turn, over, over-done}
 use Rattle.numbers.specs.Word.{bf16}
 use Rattle.cells.specs.Row.{little, bf16Cells}
 use Rattle.cells.proofs.RowLaws.{little-length}
-use Rattle.cells.proofs.Writes.{Written, write-turn, write-done}
 use Rattle.cells.proofs.rows.put_bf16.Statement.{statement}
 use Rattle.cells.proofs.rows.put_bf16.Tie as tie
 
 abbrev Inv-loop : tie.InvT-loop
-Inv-loop run cells₀ d₀ cells d = Written 2 (length run) (λ i. little 2 (bf16 (getD run i 0))) cells₀ d cells
+Inv-loop run cells₀ d₀ cells d = Passed 2 (length run) (λ i x. little 2 (bf16 (getD run i 0))) cells₀ d cells
 
 abbrev μ-loop : tie.MeasureT-loop
 μ-loop run cells₀ d₀ cells d = length run - d
@@ -58,7 +58,7 @@ loop-less c = search needs
 loop-again : tie.Need-loop-again Inv-loop μ-loop
 loop-again c =
     let start = c .before .before .before .before .before .before .before .before .before .before in
-    write-turn 2 _ _ (start .args .cells .now) (start .pre) (λ i. little-length 2 _) (c .before .before .before .before .before .before .before .loop .inv) (omega arith) refl
+    chunk-turn (over (λ i w. little-length 2 _) (start .pre)) (c .before .before .before .before .before .before .before .loop .inv) (omega arith) refl
     (rw (c .before .before .before .before .f32-to-bf16 .ensures) at (c .before .before .put-half .ensures))
 
 same-length : tie.Need-same-length Inv-loop μ-loop
@@ -68,7 +68,7 @@ returns : tie.Need-returns Inv-loop μ-loop
 unfolding bf16Cells
 returns c =
     let start = c .before .before .before .before in
-    write-done 2 _ _ (start .args .cells .now) (start .pre) (c .before .loop .inv) (omega arith)
+    over-done (over (λ i w. little-length 2 _) (start .pre)) (c .before .loop .inv) (omega arith)
 
 pub put-bf16-spec : {M : Type 1} → statement M
 put-bf16-spec =

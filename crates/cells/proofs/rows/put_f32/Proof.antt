@@ -5,14 +5,14 @@ use native.Mathlib.Omega.{arith}
 use lib.ListN.{length, getD, length-take, length-drop}
 use borrow.Author.Needs.{needs}
 use Rattle.lists.specs.Chunks.{each}
+use Rattle.lists.proofs.Loop.{Passed, chunk-turn, over, over-done}
 use Rattle.cells.specs.Row.{little, f32Cells}
 use Rattle.cells.proofs.RowLaws.{little-length}
-use Rattle.cells.proofs.Writes.{Written, write-turn, write-done}
 use Rattle.cells.proofs.rows.put_f32.Statement.{statement}
 use Rattle.cells.proofs.rows.put_f32.Tie as tie
 
 abbrev Inv-loop : tie.InvT-loop
-Inv-loop run cells₀ d₀ cells d = Written 4 (length run) (λ i. little 4 (getD run i 0)) cells₀ d cells
+Inv-loop run cells₀ d₀ cells d = Passed 4 (length run) (λ i x. little 4 (getD run i 0)) cells₀ d cells
 
 abbrev μ-loop : tie.MeasureT-loop
 μ-loop run cells₀ d₀ cells d = length run - d
@@ -54,7 +54,7 @@ loop-less c = search needs
 loop-again : tie.Need-loop-again Inv-loop μ-loop
 loop-again c =
     let start = c .before .before .before .before .before .before .before .before .before in
-    write-turn 4 _ _ (start .args .cells .now) (start .pre) (λ i. little-length 4 _) (c .before .before .before .before .before .before .loop .inv) (omega arith) refl (c .before .before .put-word .ensures)
+    chunk-turn (over (λ i w. little-length 4 _) (start .pre)) (c .before .before .before .before .before .before .loop .inv) (omega arith) refl (c .before .before .put-word .ensures)
 
 same-length : tie.Need-same-length Inv-loop μ-loop
 same-length c = search needs
@@ -63,7 +63,7 @@ returns : tie.Need-returns Inv-loop μ-loop
 unfolding f32Cells
 returns c =
     let start = c .before .before .before .before in
-    write-done 4 _ _ (start .args .cells .now) (start .pre) (c .before .loop .inv) (omega arith)
+    over-done (over (λ i w. little-length 4 _) (start .pre)) (c .before .loop .inv) (omega arith)
 
 pub put-f32-spec : {M : Type 1} → statement M
 put-f32-spec =

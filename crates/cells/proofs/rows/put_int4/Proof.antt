@@ -7,18 +7,18 @@ use native.Mathlib.Omega.{arith}
 use lib.ListN.{length, drop, length-take, length-drop}
 use borrow.Author.Needs.{needs}
 use Rattle.lists.specs.Chunks.{tab, each}
+use Rattle.lists.proofs.Loop.{Passed, chunk-turn, over, over-done}
 use Rattle.lists.proofs.Tab.{tab-set, tab-done}
 use Rattle.numbers.specs.Word.{word}
 use Rattle.groups.specs.Group.{packed}
 use Rattle.groups.proofs.GroupLaws.{packed-length}
 use Rattle.cells.specs.Row.{group, groupScale, int4Cells, int4Scales}
-use Rattle.cells.proofs.Writes.{Written, write-turn, write-done}
 use Rattle.cells.proofs.rows.put_int4.Statement.{statement}
 use Rattle.cells.proofs.rows.put_int4.Tie as tie
 
 abbrev Inv-loop : tie.InvT-loop
 Inv-loop run cells₀ scales₀ g₀ cells scales g =
-    Written 16 (length scales₀) (λ i. packed (group i run) (groupScale i run)) cells₀ g cells
+    Passed 16 (length scales₀) (λ i x. packed (group i run) (groupScale i run)) cells₀ g cells
     × (scales ≡ tab g (λ i. word (groupScale i run)) ++ drop g scales₀)
     × (length scales ≡ length scales₀)
 
@@ -82,7 +82,7 @@ loop-again c =
     let start = c .before .before .before .before .before .before .before .before .before .before in
     let inv = c .before .before .before .before .before .before .loop .inv in
     let put = c .before .before .put-group .ensures in (
-      write-turn 16 _ _ (start .args .cells .now) (start .pre .1) (λ i. packed-length _ _) (inv .0) (omega arith) refl (rw add-sub-cancel-left at (put .1)),
+      chunk-turn (over (λ i w. packed-length _ _) (start .pre .1)) (inv .0) (omega arith) refl (rw add-sub-cancel-left at (put .1)),
       tab-set _ _ _ (omega arith) (inv .1) (rw add-sub-cancel-left at (put .0)),
       search needs,
     )
@@ -98,7 +98,7 @@ unfolding int4Cells int4Scales
 returns c =
     let start = c .before .before .before .before .before in
     let e : length (start .args .run .now) / 32 ≡ length (start .args .scales .now) = omega arith in (
-      rw e (write-done 16 _ _ (start .args .cells .now) (start .pre .1) (c .before .loop .inv .0) (omega arith)),
+      rw e (over-done (over (λ i w. packed-length _ _) (start .pre .1)) (c .before .loop .inv .0) (omega arith)),
       rw e (tab-done _ _ _ (c .before .loop .inv .1) (omega arith) refl),
     )
 
