@@ -13,9 +13,10 @@ use Rattle.lists.proofs.At.{at-lent}
 use Rattle.lists.proofs.Joined.{joined-replicate}
 use Rattle.shapes.specs.declared.Shape.{Shape}
 use Rattle.shapes.specs.Shape.{headSize, bytesOf, wordsOf, total}
-use Rattle.cells.specs.Row.{rowNumbers}
+use Rattle.rows.specs.Row.{rowNumbers}
+use Rattle.rows.specs.Calls.{buffers}
 use Rattle.cells.specs.Layer.{sideSize, layerSize, put, putSide, putLayer, written, place}
-use Rattle.cells.specs.Calls.{buffers, rowAt}
+use Rattle.cells.specs.Calls.{rowAt}
 use Rattle.cells.proofs.SizeLaws.{layer-in, rowOf}
 use Rattle.cells.proofs.LayerLaws.{LayerRows, side-keeps}
 

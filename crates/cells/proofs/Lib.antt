@@ -3,6 +3,5 @@ pub mod LayerLaws
 pub mod LentLaws
 pub mod PlaceLaws
 pub mod ReplyLaws
-pub mod RowLaws
 pub mod RunLaws
 pub mod SizeLaws

@@ -12,10 +12,9 @@ use Rattle.lists.proofs.Part.{room, room-in, part-length}
 use Rattle.shapes.specs.declared.Shape.{Shape}
 use Rattle.shapes.specs.Shape.{headSize, bytesOf, wordsOf, width, limits}
 use Rattle.shapes.proofs.ShapeLaws.{limits-facts}
+use Rattle.rows.proofs.RowLaws.{row-cells-length, row-scales-length}
 use Rattle.cells.specs.Calls.{headNumbers, sideOf, cellRow, scaleRow}
-use Rattle.cells.specs.Fits.{RowFits}
 use Rattle.cells.proofs.LayerLaws.{SideRows, LayerRows}
-use Rattle.cells.proofs.RowLaws.{row-cells-length, row-scales-length}
 
 -- head h of position i lies within n positions
 pub numbers-in : (s : Shape) {i n h : ℕ} → i < n → h < s .heads → i * width s + h * headSize s + headSize s ≤ n * width s
@@ -25,13 +24,6 @@ numbers-in s {h = h} v w = omega (arith, room-in (width s) v (room (headSize s) 
 pub run-lent : (s : Shape) (numbers : List ℕ) (h i : ℕ) {e : ℕ} → i * width s + h * headSize s + headSize s ≡ e
     → part (i * width s + h * headSize s) (e - (i * width s + h * headSize s)) numbers ≡ headNumbers s numbers h i
 run-lent s numbers h i {e} q = let d : e - (i * width s + h * headSize s) ≡ headSize s = omega arith in rw d
-
--- a row of the shape fits
-pub row-fits : (s : Shape) {d cells scales : ℕ} → limits s ≡ true → d ≡ headSize s → cells ≡ bytesOf s → scales ≡ wordsOf s
-    → RowFits (s .format) d cells scales
-row-fits s h e c w =
-    let f = limits-facts s h in
-    record { known = f .format-in; whole = rw e (f .whole-groups); cell-bytes = rw e c; scale-words = rw e w }
 
 module _ (s : Shape) (n : ℕ) (inside : limits s ≡ true) where
   module _ (numbers : List ℕ) (e : length numbers ≡ n * width s) where

@@ -8,15 +8,9 @@ use Rattle.lists.specs.Chunks.{part}
 use Rattle.replies.specs.Outcome.{Refusal, _when_, Outcome, outcome}
 use Rattle.shapes.specs.Shape.{headSize, bytesOf, wordsOf, width, roomRefusals}
 use Rattle.shapes.specs.declared.Shape.{Shape}
-use Rattle.cells.specs.Row.{rowCells, rowScales, rowNumbers}
+use Rattle.rows.specs.Row.{rowCells, rowScales, rowNumbers}
+use Rattle.rows.specs.Calls.{Buffers, buffers}
 use Rattle.cells.specs.Layer.{written, zeros, place}
-
-pub record Buffers : Type 0 where
-  pub cells : List ℕ
-  pub scales : List ℕ
-
-abbrev pub buffers : List ℕ → List ℕ → Buffers
-buffers c s = record { cells = c; scales = s }
 
 -- the positions that so many numbers are
 abbrev pub positions : Shape → ℕ → ℕ
@@ -52,12 +46,15 @@ removed s l held t b =
     (written (bytesOf s) s l t (held - t) (zeros (bytesOf s)) (b .cells))
     (written (wordsOf s) s l t (held - t) (zeros (wordsOf s)) (b .scales))
 
--- the numbers of layer l, a side, head h, position p
+-- the cells and the scale words of layer l, a side, head h, position p, and the numbers that they read as
+abbrev pub cellsAt : Shape → ℕ → ℕ → ℕ → ℕ → Buffers → List ℕ
+cellsAt s l side h p b = part (place (bytesOf s) s l side h p) (bytesOf s) (b .cells)
+
+abbrev pub scalesAt : Shape → ℕ → ℕ → ℕ → ℕ → Buffers → List ℕ
+scalesAt s l side h p b = part (place (wordsOf s) s l side h p) (wordsOf s) (b .scales)
+
 unfoldable pub rowAt : Shape → ℕ → ℕ → ℕ → ℕ → Buffers → List ℕ
-rowAt s l side h p b =
-    rowNumbers (s .format) (headSize s)
-    (part (place (bytesOf s) s l side h p) (bytesOf s) (b .cells))
-    (part (place (wordsOf s) s l side h p) (wordsOf s) (b .scales))
+rowAt s l side h p b = rowNumbers (s .format) (headSize s) (cellsAt s l side h p b) (scalesAt s l side h p b)
 
 -- the conditions of replies 4, 5, 7 and 9, on the lengths of what is lent
 abbrev pub hasLayer : Shape → ℕ → Bool

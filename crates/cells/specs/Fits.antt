@@ -2,16 +2,9 @@
 use mathlib.Core.Path.{_≡_}
 use mathlib.Core.Bool.{true}
 use Prim.Native.Nat.{ℕ, _+_, _*_, _%_, _≤_, _<_}
-use Rattle.shapes.specs.Shape.{headSize, ofFormat, cellBytes, scaleWords, bytesOf, wordsOf, width, cellTotal, scaleTotal, limits}
+use Rattle.shapes.specs.Shape.{headSize, bytesOf, wordsOf, width, cellTotal, scaleTotal, limits}
 use Rattle.shapes.specs.declared.Shape.{Shape}
 use Rattle.cells.specs.Calls.{positions}
-
--- d numbers with their cells and scale words
-pub record RowFits (format d cells scales : ℕ) : Type 0 where
-  pub known : format ≤ 3
-  pub whole : ofFormat format 0 0 0 (d % 32) ≡ 0
-  pub cell-bytes : cells ≡ cellBytes format d
-  pub scale-words : scales ≡ scaleWords format d
 
 -- positions p to p + n - 1 in parts of both buffers, of the size that `size` gives for b elements a row
 pub record Fits (size : ℕ → Shape → ℕ) (s : Shape) (p n cells scales : ℕ) : Type 0 where

@@ -1,5 +1,5 @@
 // Rows in a layer of both buffers: written from numbers, or zeroed.
-use crate::rows::put_row;
+use rows::put_row;
 use shapes::Shape;
 use shapes::cell_bytes;
 use shapes::scale_words;

@@ -1,6 +1,5 @@
 // Cells: rows of numbers in both buffers, appended, removed and read. The caller says how many positions a layer has.
 pub(crate) mod layers;
-pub(crate) mod rows;
 
 use layers::clear_layer;
 use layers::put_layer;
@@ -21,8 +20,9 @@ ghost use lib.ListN.{length, replicate};
 ghost use Rattle.replies.specs.Reply.{replyNumber};
 ghost use Rattle.replies.specs.Outcome.{lowest, answered};
 ghost use Rattle.shapes.specs.Shape.{limits, roomRefusals};
+ghost use Rattle.rows.specs.Calls.{buffers};
 ghost use Rattle.cells.specs.Layer.{layerSize};
-ghost use Rattle.cells.specs.Calls.{buffers, appended, removed, rowAt};
+ghost use Rattle.cells.specs.Calls.{appended, removed, rowAt};
 ghost use Rattle.cells.specs.Calls.{appendRefusals, removeRefusals, readRefusals, overfull, appendRowsOf, removeRowsOf, readRowOf};
 ghost use Rattle.cells.specs.Fits.{InRoom, RowIn, RowsIn};
 

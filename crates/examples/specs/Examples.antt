@@ -10,7 +10,7 @@ use Rattle.groups.specs.Group.{packed, unpacked}
 use Rattle.replies.specs.Outcome.{lowest}
 use Rattle.shapes.specs.declared.Shape.{Shape}
 use Rattle.shapes.specs.Shape.{cellTotal, scaleTotal, roomRefusals}
-use Rattle.cells.specs.Calls.{buffers}
+use Rattle.rows.specs.Calls.{buffers}
 use Rattle.store.specs.Calls.{openOf, appendOf}
 
 pub data Asked : Type 0 where

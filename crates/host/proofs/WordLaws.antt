@@ -10,7 +10,7 @@ use Rattle.lists.specs.Chunks.{tab}
 use Rattle.lists.proofs.Tab.{tab-set, tab-of, tab-done}
 use Rattle.replies.specs.Outcome.{Outcome}
 use Rattle.shapes.specs.Shape.{headSize}
-use Rattle.cells.specs.Calls.{buffers}
+use Rattle.rows.specs.Calls.{buffers}
 use Rattle.store.specs.Record.{seqLen}
 use Rattle.store.specs.Calls.{Store, store}
 use Rattle.store.specs.declared.Record.{Record}

@@ -5,7 +5,7 @@ use lib.ListN.{getD, drop}
 use Rattle.replies.specs.Outcome.{Outcome}
 use Rattle.shapes.specs.Shape.{headSize}
 use Rattle.shapes.specs.declared.Shape.{Shape}
-use Rattle.cells.specs.Calls.{buffers}
+use Rattle.rows.specs.Calls.{buffers}
 use Rattle.store.specs.Record.{seqLen}
 use Rattle.store.specs.Calls.{Store, store}
 use Rattle.store.specs.declared.Record.{Record}

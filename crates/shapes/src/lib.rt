@@ -16,7 +16,13 @@ pub struct Shape {
 }
 
 // What F32, BF16, INT8 and INT4 have, by the number of the format.
-fn of_format(format: u32, of_f32: usize, of_bf16: usize, of_int8: usize, of_int4: usize) -> usize
+pub fn of_format(
+    format: u32,
+    of_f32: usize,
+    of_bf16: usize,
+    of_int8: usize,
+    of_int4: usize,
+) -> usize
     ensures { λ r. ⌜ r ≡ ofFormat format «of_f32» «of_bf16» «of_int8» «of_int4» ⌝ }
 {
     match format {

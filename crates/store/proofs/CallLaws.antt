@@ -11,7 +11,8 @@ use Rattle.replies.specs.Outcome.{Refusal, _when_, lowest}
 use Rattle.replies.proofs.Refusals.{lowest-none, passed-before, passed-after, refused-within, done-within, given-number, outcome-same, outcome-done}
 use Rattle.shapes.specs.Shape.{headSize, cellTotal, scaleTotal}
 use Rattle.shapes.specs.declared.Shape.{Shape}
-use Rattle.cells.specs.Calls.{Buffers, buffers, positions, room, hasLayer, hasHead, appendRefusals, removeRefusals, overfull, appendRowsOf, removeRowsOf, readRowOf}
+use Rattle.rows.specs.Calls.{Buffers, buffers}
+use Rattle.cells.specs.Calls.{positions, room, hasLayer, hasHead, appendRefusals, removeRefusals, overfull, appendRowsOf, removeRowsOf, readRowOf}
 use Rattle.store.specs.declared.Record.{Record}
 use Rattle.store.specs.Record.{lengthOf, newRecord, withLength, Grows}
 use Rattle.store.specs.Calls.{store, empty, noShape, storeRefusals, openOf, appendOf, truncateOf, readOf}

@@ -5,9 +5,9 @@ use native.Mathlib.Omega.{arith}
 use borrow.Author.Needs.{needs}
 use lib.ListN.{length}
 use Rattle.lists.proofs.Part.{lent-count}
+use Rattle.rows.proofs.FitLaws.{shape-fits, get-left}
 use Rattle.cells.proofs.SizeLaws.{rowOf, row-small, row-in}
 use Rattle.cells.proofs.LentLaws.{row-read}
-use Rattle.cells.proofs.RunLaws.{row-fits}
 use Rattle.cells.proofs.get_at.Statement.{statement}
 use Rattle.cells.proofs.get_at.Tie as tie
 
@@ -95,23 +95,22 @@ part-get-row-end-2 : tie.Need-part-get-row-end-2
 part-get-row-end-2 c = words-in (c .before)
 
 get-row-requires : tie.Need-get-row-requires
-get-row-requires c κs =
-    let k = c .before .before .before in
-    let a = k .before .before .before .before .before .before .before in
-    row-fits (a .args .shape) (a .pre .0 .in-limits) (a .pre .1 .out-size)
-    (c .before .before .get-row-arg .given .2 ∙ lent-count _ refl (k .before .before .before .cell-bytes .ensures))
-    (c .before .get-row-arg2 .given .2 ∙ lent-count _ refl (k .before .before .scale-words .ensures))
+get-row-requires c κs = search needs
 
 same-length : tie.Need-same-length
 same-length c = search needs
 
 returns : tie.Need-returns
 returns c =
-    let k = c .before .before .before .before .before .before in
+    let g = c .before .before .before in
+    let k = g .before .before .before in
     let a = k .before .before .before .before .before .before .before in
+    let fits = shape-fits (a .args .shape) (a .pre .0 .in-limits) (a .pre .1 .out-size)
+    (g .before .before .get-row-arg .given .2 ∙ lent-count _ refl (k .before .before .before .cell-bytes .ensures))
+    (g .before .get-row-arg2 .given .2 ∙ lent-count _ refl (k .before .before .scale-words .ensures)) in
     row-read (a .args .shape) (a .args .layer) (a .args .side) (a .args .head) (a .args .position) (a .args .cells .now) (a .args .scales .now)
     (k .before .before .before .cell-bytes .ensures) (k .before .before .scale-words .ensures) (a .pre .1 .out-size) refl refl
-    (c .before .before .get-row .ensures)
+    (get-left _ _ _ fits (c .before .before .get-row .ensures))
 
 pub get-at-spec : {M : Type 1} → statement M
 get-at-spec =

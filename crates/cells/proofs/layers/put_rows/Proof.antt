@@ -9,9 +9,10 @@ use Rattle.lists.proofs.Part.{lent-count}
 use Rattle.lists.proofs.Loop.{Passed, chunk-in, chunk-turn, over-done}
 use Rattle.shapes.specs.Shape.{headSize, bytesOf, wordsOf, width}
 use Rattle.shapes.proofs.ShapeLaws.{width-in}
+use Rattle.rows.proofs.FitLaws.{shape-fits, put-left}
 use Rattle.cells.specs.Calls.{headNumbers, cellRow, scaleRow}
 use Rattle.cells.proofs.ChunkLaws.{Rows, rows-of}
-use Rattle.cells.proofs.RunLaws.{numbers-in, run-lent, row-fits, cell-rows, scale-rows}
+use Rattle.cells.proofs.RunLaws.{numbers-in, run-lent, cell-rows, scale-rows}
 use Rattle.cells.proofs.layers.put_rows.Statement.{statement}
 use Rattle.cells.proofs.layers.put_rows.Tie as tie
 
@@ -141,13 +142,7 @@ part-put-row-end-3 : tie.Need-part-put-row-end-3 Inv-loop μ-loop
 part-put-row-end-3 c = omega (arith, words-in (c .before .before))
 
 put-row-requires : tie.Need-put-row-requires Inv-loop μ-loop
-put-row-requires c κs =
-    let l = c .before .before .before .before in
-    let a = start l in
-    row-fits (a .args .shape) (a .pre .in-limits)
-    (c .before .before .put-row-arg .given .2 ∙ lent-count _ refl refl)
-    (c .before .put-row-arg2 .given .2 ∙ lent-count _ refl (l .before .before .before .cell-bytes .ensures))
-    (c .put-row-arg3 .given .2 ∙ lent-count _ refl (l .before .before .scale-words .ensures))
+put-row-requires c κs = search needs
 
 add-i : tie.Need-add-i Inv-loop μ-loop
 add-i c = search needs
@@ -157,8 +152,14 @@ loop-less c = search needs
 
 loop-again : tie.Need-loop-again Inv-loop μ-loop
 loop-again c =
-    let l = c .before .before .before .before .before .before .before .before .before in
-    let y = c .before .before .before .before .put-row .ensures in (
+    let k = c .before .before .before .before .before in
+    let l = k .before .before .before .before in
+    let a = start l in
+    let fits = shape-fits (a .args .shape) (a .pre .in-limits)
+    (k .before .before .put-row-arg .given .2 ∙ lent-count _ refl refl)
+    (k .before .put-row-arg2 .given .2 ∙ lent-count _ refl (l .before .before .before .cell-bytes .ensures))
+    (k .put-row-arg3 .given .2 ∙ lent-count _ refl (l .before .before .scale-words .ensures)) in
+    let y = put-left _ _ _ fits (c .before .before .before .before .put-row .ensures) in (
       chunk-turn (cells-rows l) (l .loop .inv .0) (omega arith) refl (y .0 ∙ rw (run l)),
       chunk-turn (words-rows l) (l .loop .inv .1) (omega arith) refl (y .1 ∙ rw (run l)),
     )

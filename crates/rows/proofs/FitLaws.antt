@@ -1,0 +1,82 @@
+-- What a row that fits is known by, in all and in each format, and what a call leaves of it.
+-- Each holds by the tests that a row passes, one by one.
+use mathlib.Core.Path.{_≡_, ap}
+use mathlib.Core.Bool.{true}
+use mathlib.Core.List.{List}
+use Prim.Native.Nat.{ℕ, _*_, _%_, _≤_}
+use native.Mathlib.Omega.{arith}
+use lib.ListN.{length}
+use borrow.Author.Tests.{le-leb, leb-true, eq-eqb, eqb-true}
+use Rattle.replies.proofs.Flags.{both}
+use Rattle.replies.proofs.Refusals.{test-left}
+use Rattle.shapes.specs.declared.Shape.{Shape}
+use Rattle.shapes.specs.Shape.{headSize, ofFormat, cellBytes, scaleWords, bytesOf, wordsOf, limits}
+use Rattle.shapes.proofs.ShapeLaws.{limits-facts}
+use Rattle.rows.specs.Row.{rowCells, rowScales, rowNumbers}
+use Rattle.rows.specs.Calls.{Buffers, buffers, rowFits, putRowOf, getRowOf}
+
+-- what a row that fits is known by, both ways
+pub record RowFits (format d cells scales : ℕ) : Type 0 where
+  pub known : format ≤ 3
+  pub small : d ≤ 256
+  pub whole : ofFormat format 0 0 0 (d % 32) ≡ 0
+  pub cell-bytes : cells ≡ cellBytes format d
+  pub scale-words : scales ≡ scaleWords format d
+
+pub fits-facts : {format d cells scales : ℕ} → rowFits format d cells scales ≡ true → RowFits format d cells scales
+unfolding rowFits
+fits-facts h =
+    let a = both _ _ h in
+    let b = both _ _ (a .1) in
+    let e = both _ _ (b .1) in
+    let f = both _ _ (e .1) in
+    record {
+      known = leb-true _ 3 (a .0);
+      small = leb-true _ 256 (b .0);
+      whole = eqb-true _ 0 (e .0);
+      cell-bytes = eqb-true _ _ (f .0);
+      scale-words = eqb-true _ _ (f .1);
+    }
+
+pub facts-fit : {format d cells scales : ℕ} → RowFits format d cells scales → rowFits format d cells scales ≡ true
+unfolding rowFits
+facts-fit h = rw (le-leb _ 3 (h .known), le-leb _ 256 (h .small), eq-eqb _ 0 (h .whole), eq-eqb _ _ (h .cell-bytes), eq-eqb _ _ (h .scale-words))
+
+-- a row of a shape fits
+pub shape-fits : (s : Shape) {d cells scales : ℕ} → limits s ≡ true → d ≡ headSize s → cells ≡ bytesOf s → scales ≡ wordsOf s
+    → RowFits (s .format) d cells scales
+shape-fits s h e c w =
+    let f = limits-facts s h in
+    record { known = f .format-in; small = rw e (f .size-in .1); whole = rw e (f .whole-groups); cell-bytes = rw e c; scale-words = rw e w }
+
+-- in each format
+module _ {d cells scales : ℕ} where
+  pub f32-fits : RowFits 0 d cells scales → (cells ≡ d * 4) × (scales ≡ 0)
+  unfolding cellBytes scaleWords ofFormat
+  f32-fits h = omega arith
+
+  pub bf16-fits : RowFits 1 d cells scales → (cells ≡ d * 2) × (scales ≡ 0)
+  unfolding cellBytes scaleWords ofFormat
+  bf16-fits h = omega arith
+
+  pub int8-fits : RowFits 2 d cells scales → (cells ≡ d) × (scales ≡ 1)
+  unfolding cellBytes scaleWords ofFormat
+  int8-fits h = omega arith
+
+  pub int4-fits : RowFits 3 d cells scales → (d ≡ scales * 32) × (cells ≡ scales * 16)
+  unfolding cellBytes scaleWords ofFormat
+  int4-fits h = omega arith
+
+-- what each call leaves of a row that fits
+pub put-left : {format n : ℕ} (run cells scales : List ℕ) {x y : List ℕ} → RowFits format (length run) (length cells) (length scales)
+    → record { reply = n; left = buffers x y } ≡ putRowOf format run (buffers cells scales)
+    → (x ≡ rowCells format run) × (y ≡ rowScales format run)
+unfolding putRowOf
+put-left run cells scales h e =
+    let q = test-left 7 _ _ (facts-fit h) e in (ap (λ (b : Buffers). b .cells) q, ap (λ (b : Buffers). b .scales) q)
+
+pub get-left : {format n : ℕ} (cells scales out : List ℕ) {x : List ℕ} → RowFits format (length out) (length cells) (length scales)
+    → record { reply = n; left = x } ≡ getRowOf format (buffers cells scales) out
+    → x ≡ rowNumbers format (length out) cells scales
+unfolding getRowOf
+get-left cells scales out h e = test-left 7 _ _ (facts-fit h) e
