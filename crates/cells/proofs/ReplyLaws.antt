@@ -1,12 +1,11 @@
 -- What reply 0 says of the arguments of each call: the conditions that the functions inside ask for.
 -- Each holds since no refusal of the call applies, and each refusal is a test that then ended the other way.
 use mathlib.Core.Path.{_≡_, refl, sym, _∙_}
-use mathlib.Core.Bool.{true, false}
+use mathlib.Core.Bool.{true}
 use mathlib.Core.List.{List, _++_}
-use Prim.Native.Nat.{ℕ, _+_, _-_, _≤_, _<_}
+use Prim.Native.Nat.{ℕ, _≤_}
 use native.Mathlib.Omega.{arith}
-use lib.Dec.{leb}
-use borrow.Author.Tests.{le-leb, lt-leb, ltb-true, leb-true, eqb-true, not-false}
+use borrow.Author.Tests.{ltb-true, leb-true, eqb-true, not-false}
 use Rattle.replies.specs.Outcome.{Refusal, lowest, outcome}
 use Rattle.replies.proofs.Refusals.{None, still-passed, still-refused, lowest-none, passed-before, refused-before, outcome-done, outcome-refused}
 use Rattle.shapes.specs.declared.Shape.{Shape}
@@ -15,16 +14,6 @@ use Rattle.replies.proofs.Flags.{both}
 use Rattle.shapes.proofs.ShapeLaws.{within-limits, exact-sizes}
 use Rattle.cells.specs.Calls.{appendRefusals, removeRefusals, readRefusals, overfull}
 use Rattle.cells.specs.Fits.{InRoom, RowsIn, RowIn}
-
--- the two tests for room after `held` positions, and both passed
-pub held-over : {held cap : ℕ} → cap < held → (m : ℕ) → leb (held + m) cap ≡ false
-held-over {held} {cap} h m = lt-leb (held + m) cap (omega arith)
-
-pub new-over : {held cap m : ℕ} → held ≤ cap → cap - held < m → leb (held + m) cap ≡ false
-new-over {held} {cap} {m} h w = lt-leb (held + m) cap (omega arith)
-
-pub new-within : {held cap m : ℕ} → held ≤ cap → m ≤ cap - held → leb (held + m) cap ≡ true
-new-within {held} {cap} {m} h w = le-leb (held + m) cap (omega arith)
 
 -- what a call leaves whose reply r was tested by its number n
 module _ (a : List Refusal) {r n : ℕ} (e : r ≡ lowest a) (q : n ≡ r) where

@@ -1,6 +1,6 @@
 -- Rows appended, removed and read, where the caller says how many positions a layer has: the paper's section Calls, with replies 4, 5, 7, 8 and 9.
-use Prim.Native.Nat.{ℕ, _+_, _-_, _*_, _/_, _%_}
-use mathlib.Core.Bool.{Bool, cond, not, _&&_}
+use Prim.Native.Nat.{ℕ, _+_, _-_, _/_, _%_}
+use mathlib.Core.Bool.{Bool, not, _&&_}
 use mathlib.Core.List.{List, [], _∷_, _++_}
 use lib.Dec.{eqb, ltb, leb}
 use lib.ListN.{length}
@@ -8,28 +8,14 @@ use Rattle.lists.specs.Chunks.{part}
 use Rattle.replies.specs.Outcome.{Refusal, _when_, Outcome, outcome}
 use Rattle.shapes.specs.Shape.{headSize, bytesOf, wordsOf, width, roomRefusals}
 use Rattle.shapes.specs.declared.Shape.{Shape}
-use Rattle.rows.specs.Row.{rowCells, rowScales, rowNumbers}
+use Rattle.rows.specs.Row.{rowNumbers}
 use Rattle.rows.specs.Calls.{Buffers, buffers}
-use Rattle.cells.specs.Layer.{written, zeros, place}
+use Rattle.layers.specs.Layer.{written, zeros, place}
+use Rattle.layers.specs.Calls.{sideOf, cellRow, scaleRow}
 
 -- the positions that so many numbers are
 abbrev pub positions : Shape → ℕ → ℕ
 positions s numbers = numbers / width s
-
--- position first, then head: the numbers of head h in position i
-abbrev pub headNumbers : Shape → List ℕ → ℕ → ℕ → List ℕ
-headNumbers s numbers h i = part (i * width s + h * headSize s) (headSize s) numbers
-
--- side 0 is the keys', side 1 the values'
-abbrev pub sideOf : List ℕ → List ℕ → ℕ → List ℕ
-sideOf keys values side = cond (eqb side 0) keys values
-
--- what is written for a side, a head and a position
-abbrev pub cellRow : Shape → List ℕ → ℕ → ℕ → List ℕ
-cellRow s numbers h i = rowCells (s .format) (headNumbers s numbers h i)
-
-abbrev pub scaleRow : Shape → List ℕ → ℕ → ℕ → List ℕ
-scaleRow s numbers h i = rowScales (s .format) (headNumbers s numbers h i)
 
 -- keys and values appended to layer l, which has `held` positions
 unfoldable pub appended : Shape → ℕ → ℕ → List ℕ → List ℕ → Buffers → Buffers

@@ -1,6 +1,4 @@
 // Cells: rows of numbers in both buffers, appended, removed and read. The caller says how many positions a layer has.
-pub(crate) mod layers;
-
 use layers::clear_layer;
 use layers::put_layer;
 use layers::zero_cells;
@@ -13,15 +11,13 @@ use shapes::cell_bytes;
 use shapes::room_reply;
 use shapes::scale_words;
 ghost use mathlib.Core.Path.{_≡_};
-ghost use mathlib.Core.Bool.{true};
 ghost use mathlib.Core.List.{_++_};
 ghost use Prim.Native.Nat.{_≤_};
 ghost use lib.ListN.{length, replicate};
 ghost use Rattle.replies.specs.Reply.{replyNumber};
 ghost use Rattle.replies.specs.Outcome.{lowest, answered};
-ghost use Rattle.shapes.specs.Shape.{limits, roomRefusals};
+ghost use Rattle.shapes.specs.Shape.{roomRefusals};
 ghost use Rattle.rows.specs.Calls.{buffers};
-ghost use Rattle.cells.specs.Layer.{layerSize};
 ghost use Rattle.cells.specs.Calls.{appended, removed, rowAt};
 ghost use Rattle.cells.specs.Calls.{appendRefusals, removeRefusals, readRefusals, overfull, appendRowsOf, removeRowsOf, readRowOf};
 ghost use Rattle.cells.specs.Fits.{InRoom, RowIn, RowsIn};
@@ -234,8 +230,8 @@ fn put_in(
         ⌝ }
 {
     let n = keys.len() / (shape.heads as usize * shape.head_size as usize);
-    let c = layer_size(shape, cell_bytes(shape.format, shape.head_size));
-    let w = layer_size(shape, scale_words(shape.format, shape.head_size));
+    let c = cells.len() / shape.layers as usize;
+    let w = scales.len() / shape.layers as usize;
     let a = layer as usize * c;
     let b = layer as usize * w;
     put_layer(
@@ -262,8 +258,8 @@ fn clear_in(shape: Shape, layer: u32, held: u32, t: u32, cells: &mut [u8], scale
     if held <= t {
         return;
     }
-    let c = layer_size(shape, cell_bytes(shape.format, shape.head_size));
-    let w = layer_size(shape, scale_words(shape.format, shape.head_size));
+    let c = cells.len() / shape.layers as usize;
+    let w = scales.len() / shape.layers as usize;
     let a = layer as usize * c;
     let b = layer as usize * w;
     clear_layer(
@@ -298,12 +294,4 @@ fn get_at(
     let a = row * c;
     let b = row * w;
     get_row(shape.format, &cells[a..a + c], &scales[b..b + w], out);
-}
-
-// The elements of a layer that has `each` for one position and head.
-fn layer_size(shape: Shape, each: usize) -> usize
-    requires { ⌜ (limits shape ≡ true) × (each ≤ 1024) ⌝ }
-    ensures { λ r. ⌜ r ≡ layerSize each shape ⌝ }
-{
-    2 * (shape.heads as usize * (shape.capacity as usize * each))
 }

@@ -11,7 +11,7 @@ use Rattle.groups.specs.Group.{packed, half, unpacked}
 use Rattle.replies.specs.Outcome.{lowest, outcome}
 use Rattle.shapes.specs.Shape.{ofFormat, cellBytes, scaleWords, total, limits, within, exact}
 use Rattle.rows.specs.Row.{little, f32Cells, bf16Cells, int8Cells, int8Scales, int4Cells, int4Scales, rowCells, rowScales}
-use Rattle.cells.specs.Layer.{put, putSide, putLayer, written}
+use Rattle.layers.specs.Layer.{put, putSide, putLayer, written}
 use Rattle.cells.specs.Calls.{appended}
 use Rattle.store.specs.Record.{goodLengths}
 use Rattle.store.specs.Calls.{openOf, appendOf}

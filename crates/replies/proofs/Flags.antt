@@ -7,6 +7,9 @@ pub both : (p q : Bool) → (p && q) ≡ true → (p ≡ true) × (q ≡ true)
 both true q h = (refl, h)
 both false q h = (cc, cc)
 
+pub both-true : {p q : Bool} → p ≡ true → q ≡ true → (p && q) ≡ true
+both-true e h = rw (e, h)
+
 pub passed : {t u : Bool} → t ≡ u → not t ≡ false → u ≡ true
 passed e h = sym e ∙ not-false _ h
 

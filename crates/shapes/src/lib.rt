@@ -82,7 +82,8 @@ fn room(shape: Shape, each: usize) -> usize
     2 * shape.layers as usize * shape.heads as usize * shape.capacity as usize * each
 }
 
-fn in_limits(shape: Shape) -> bool
+// Whether each field is inside its limits.
+pub fn in_limits(shape: Shape) -> bool
     ensures { λ r. ⌜ r ≡ limits shape ⌝ }
 {
     if 3 < shape.format {

@@ -7,9 +7,10 @@ use borrow.Author.Needs.{needs}
 use borrow.Author.Tests.{lt-ltb, le-ltb, eq-eqb, ne-eqb}
 use Rattle.replies.specs.Outcome.{lowest}
 use Rattle.shapes.specs.Shape.{roomRefusals}
-use Rattle.shapes.proofs.ShapeLaws.{width-in}
 use Rattle.cells.specs.Calls.{appendRefusals}
-use Rattle.cells.proofs.ReplyLaws.{held-over, new-over, new-within, room-refused, past-room, room-limits}
+use Rattle.shapes.proofs.ShapeLaws.{width-in}
+use Rattle.layers.proofs.FitLaws.{start-over, span-over, span-within}
+use Rattle.cells.proofs.ReplyLaws.{room-refused, past-room, room-limits}
 use Rattle.cells.proofs.append_reply.Statement.{statement}
 use Rattle.cells.proofs.append_reply.Tie as tie
 
@@ -76,7 +77,7 @@ returns-5 c =
       lt-ltb _ _ (c .before .before .before .before .before .before .if2 .left),
       eq-eqb _ 0 (c .before .before .before .if3 .left),
       eq-eqb _ _ (c .before .before .if4 .left),
-      held-over (c .if5 .taken),
+      start-over (c .if5 .taken),
     ))
 
 cast-if6 : tie.Need-cast-if6
@@ -93,7 +94,7 @@ returns-6 c =
       lt-ltb _ _ (c .before .before .before .before .before .before .before .before .if2 .left),
       eq-eqb _ 0 (c .before .before .before .before .before .if3 .left),
       eq-eqb _ _ (c .before .before .before .before .if4 .left),
-      new-over (c .before .before .if5 .left) (c .if6 .taken),
+      span-over (c .before .before .if5 .left) (c .if6 .taken),
     ))
 
 returns-7 : tie.Need-returns-7
@@ -104,7 +105,7 @@ returns-7 c =
       lt-ltb _ _ (c .before .before .before .before .before .before .before .before .if2 .left),
       eq-eqb _ 0 (c .before .before .before .before .before .if3 .left),
       eq-eqb _ _ (c .before .before .before .before .if4 .left),
-      new-within (c .before .before .if5 .left) (c .if6 .left),
+      span-within (c .before .before .if5 .left) (c .if6 .left),
     ))
 
 pub append-reply-spec : {M : Type 1} → statement M

@@ -1,0 +1,52 @@
+-- The rows of appended numbers: each position has its numbers, and each head's row has B cells and S scale words.
+-- Each holds since the numbers are whole positions, and by the lengths of a row.
+use mathlib.Core.Path.{_≡_, _∙_}
+use mathlib.Core.Bool.{Bool, true, false, cond}
+use mathlib.Core.List.{List}
+use Prim.Native.Nat.{ℕ, _+_, _-_, _*_, _≤_, _<_}
+use native.Mathlib.Omega.{arith}
+use lib.Dec.{eqb}
+use lib.ListN.{length}
+use Rattle.lists.specs.Chunks.{part}
+use Rattle.lists.proofs.Part.{room, room-in, part-length}
+use Rattle.shapes.specs.declared.Shape.{Shape}
+use Rattle.shapes.specs.Shape.{headSize, bytesOf, wordsOf, width, limits}
+use Rattle.shapes.proofs.ShapeLaws.{limits-facts}
+use Rattle.layers.specs.Calls.{headNumbers, sideOf, cellRow, scaleRow}
+use Rattle.layers.proofs.LayerLaws.{SideRows, LayerRows}
+use Rattle.rows.proofs.RowLaws.{row-cells-length, row-scales-length}
+
+-- head h of position i lies within n positions
+pub numbers-in : (s : Shape) {i n h : ℕ} → i < n → h < s .heads → i * width s + h * headSize s + headSize s ≤ n * width s
+numbers-in s {h = h} v w = omega (arith, room-in (width s) v (room (headSize s) w))
+
+-- its numbers, lent as `&numbers[a..e]`
+pub run-lent : (s : Shape) (numbers : List ℕ) (h i : ℕ) {e : ℕ} → i * width s + h * headSize s + headSize s ≡ e
+    → part (i * width s + h * headSize s) (e - (i * width s + h * headSize s)) numbers ≡ headNumbers s numbers h i
+run-lent s numbers h i {e} q = let d : e - (i * width s + h * headSize s) ≡ headSize s = omega arith in rw d
+
+module _ (s : Shape) (n : ℕ) (inside : limits s ≡ true) where
+  module _ (numbers : List ℕ) (e : length numbers ≡ n * width s) where
+    head-length : (h i : ℕ) → h < s .heads → i < n → length (headNumbers s numbers h i) ≡ headSize s
+    head-length h i w v =
+        part-length (i * width s + h * headSize s) (headSize s) numbers (omega (arith, numbers-in s v w))
+
+    pub cell-rows : SideRows (bytesOf s) s n (cellRow s numbers)
+    cell-rows h w i v =
+        let d = head-length h i w v in
+        row-cells-length (s .format) (headNumbers s numbers h i) (rw d (limits-facts s inside .whole-groups)) ∙ rw d
+
+    pub scale-rows : SideRows (wordsOf s) s n (scaleRow s numbers)
+    scale-rows h w i v = row-scales-length (s .format) (headNumbers s numbers h i) ∙ rw (head-length h i w v)
+
+  -- of both sides
+  module _ (keys values : List ℕ) (k : length keys ≡ n * width s) (v : length values ≡ n * width s) where
+    either : (t : Bool) → length (cond t keys values) ≡ n * width s
+    either true = k
+    either false = v
+
+    pub cell-layer : LayerRows (bytesOf s) s n (λ side. cellRow s (sideOf keys values side))
+    cell-layer side w = cell-rows (sideOf keys values side) (either (eqb side 0))
+
+    pub scale-layer : LayerRows (wordsOf s) s n (λ side. scaleRow s (sideOf keys values side))
+    scale-layer side w = scale-rows (sideOf keys values side) (either (eqb side 0))

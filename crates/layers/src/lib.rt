@@ -1,0 +1,258 @@
+// Layers: rows in a layer of both buffers, written from numbers or zeroed.
+use replies::Reply;
+use rows::put_row;
+use shapes::Shape;
+use shapes::cell_bytes;
+use shapes::in_limits;
+use shapes::scale_words;
+ghost use mathlib.Core.Path.{_≡_};
+ghost use mathlib.Core.Bool.{true};
+ghost use Prim.Native.Nat.{_*_, _≤_, _<_};
+ghost use lib.ListN.{length, replicate};
+ghost use Rattle.lists.specs.Chunks.{joined};
+ghost use Rattle.replies.specs.Outcome.{answered};
+ghost use Rattle.shapes.specs.Shape.{bytesOf, wordsOf, width, limits};
+ghost use Rattle.rows.specs.Calls.{buffers};
+ghost use Rattle.layers.specs.Layer.{blockSize, sideSize, layerSize, put, putSide, putLayer, zeros};
+ghost use Rattle.layers.specs.Calls.{sideOf, cellRow, scaleRow, layerFits, putLayerOf, clearLayerOf};
+ghost use Rattle.layers.specs.Fits.{Fits, RowsFit};
+
+// Keys and values into positions `p` to `p + n - 1` of a layer.
+pub fn put_layer(
+    shape: Shape,
+    p: usize,
+    n: usize,
+    keys: &[u32],
+    values: &[u32],
+    cells: &mut [u8],
+    scales: &mut [u32],
+) -> Reply
+    ensures { λ r.
+        ⌜
+        answered r (buffers (now (cells .exit)) (now (scales .exit)))
+        ≡ putLayerOf shape p n (now (keys .entry)) (now (values .entry)) (buffers (now (cells .entry)) (now (scales .entry)))
+        ⌝ }
+{
+    if !layer_fits(shape, p, n, cells.len(), scales.len()) {
+        return Reply::Size;
+    }
+    let numbers = n * (shape.heads as usize * shape.head_size as usize);
+    if keys.len() != numbers {
+        return Reply::Size;
+    }
+    if values.len() != numbers {
+        return Reply::Size;
+    }
+    put_sides(shape, p, n, keys, values, cells, scales);
+    Reply::Done
+}
+
+// Zeros into positions `p` to `p + n - 1` of a layer.
+pub fn clear_layer(shape: Shape, p: usize, n: usize, cells: &mut [u8], scales: &mut [u32]) -> Reply
+    ensures { λ r.
+        ⌜
+        answered r (buffers (now (cells .exit)) (now (scales .exit)))
+        ≡ clearLayerOf shape p n (buffers (now (cells .entry)) (now (scales .entry)))
+        ⌝ }
+{
+    if !layer_fits(shape, p, n, cells.len(), scales.len()) {
+        return Reply::Size;
+    }
+    clear_sides(shape, p, n, cells, scales);
+    Reply::Done
+}
+
+// Whether positions `p` to `p + n - 1` are in a layer, and what is lent is the layer's part of both buffers.
+fn layer_fits(shape: Shape, p: usize, n: usize, cells: usize, scales: usize) -> bool
+    ensures { λ r. ⌜ r ≡ layerFits shape p n cells scales ⌝ }
+{
+    if !in_limits(shape) {
+        return false;
+    }
+    if (shape.capacity as usize) < p {
+        return false;
+    }
+    if shape.capacity as usize - p < n {
+        return false;
+    }
+    if cells != layer_size(shape, cell_bytes(shape.format, shape.head_size)) {
+        return false;
+    }
+    scales == layer_size(shape, scale_words(shape.format, shape.head_size))
+}
+
+// The elements of a layer that has `each` for one position and head.
+fn layer_size(shape: Shape, each: usize) -> usize
+    requires { ⌜ (limits shape ≡ true) × (each ≤ 1024) ⌝ }
+    ensures { λ r. ⌜ r ≡ layerSize each shape ⌝ }
+{
+    2 * (shape.heads as usize * (shape.capacity as usize * each))
+}
+
+// The keys' side, then the values'.
+fn put_sides(
+    shape: Shape,
+    p: usize,
+    n: usize,
+    keys: &[u32],
+    values: &[u32],
+    cells: &mut [u8],
+    scales: &mut [u32],
+)
+    requires { ⌜ Fits layerSize shape p n (length (now cells)) (length (now scales)) ⌝ }
+    requires { ⌜ (length (now keys) ≡ n * width shape) × (length (now values) ≡ n * width shape) ⌝ }
+    ensures cells { λ _. ⌜ now (cells .exit) ≡ putLayer (bytesOf shape) shape p n (λ side. cellRow shape (sideOf (now (keys .entry)) (now (values .entry)) side)) (now (cells .entry)) ⌝ }
+    ensures scales { λ _. ⌜ now (scales .exit) ≡ putLayer (wordsOf shape) shape p n (λ side. scaleRow shape (sideOf (now (keys .entry)) (now (values .entry)) side)) (now (scales .entry)) ⌝ }
+{
+    let c = cells.len() / 2;
+    let w = scales.len() / 2;
+    put_side(shape, p, n, keys, &mut cells[0..c], &mut scales[0..w]);
+    put_side(
+        shape,
+        p,
+        n,
+        values,
+        &mut cells[c..c + c],
+        &mut scales[w..w + w],
+    );
+}
+
+fn clear_sides(shape: Shape, p: usize, n: usize, cells: &mut [u8], scales: &mut [u32])
+    requires { ⌜ Fits layerSize shape p n (length (now cells)) (length (now scales)) ⌝ }
+    ensures cells { λ _. ⌜ now (cells .exit) ≡ putLayer (bytesOf shape) shape p n (zeros (bytesOf shape)) (now (cells .entry)) ⌝ }
+    ensures scales { λ _. ⌜ now (scales .exit) ≡ putLayer (wordsOf shape) shape p n (zeros (wordsOf shape)) (now (scales .entry)) ⌝ }
+{
+    let c = cells.len() / 2;
+    let w = scales.len() / 2;
+    clear_side(shape, p, n, &mut cells[0..c], &mut scales[0..w]);
+    clear_side(shape, p, n, &mut cells[c..c + c], &mut scales[w..w + w]);
+}
+
+fn put_side(shape: Shape, p: usize, n: usize, numbers: &[u32], cells: &mut [u8], scales: &mut [u32])
+    requires { ⌜ Fits sideSize shape p n (length (now cells)) (length (now scales)) ⌝ }
+    requires { ⌜ length (now numbers) ≡ n * width shape ⌝ }
+    ensures cells { λ _. ⌜ now (cells .exit) ≡ putSide (bytesOf shape) shape p n (cellRow shape (now (numbers .entry))) (now (cells .entry)) ⌝ }
+    ensures scales { λ _. ⌜ now (scales .exit) ≡ putSide (wordsOf shape) shape p n (scaleRow shape (now (numbers .entry))) (now (scales .entry)) ⌝ }
+{
+    let c = shape.capacity as usize * cell_bytes(shape.format, shape.head_size);
+    let w = shape.capacity as usize * scale_words(shape.format, shape.head_size);
+    let mut h = 0;
+    while h < shape.heads as usize {
+        let a = h * c;
+        let b = h * w;
+        put_block(
+            shape,
+            h,
+            p,
+            n,
+            numbers,
+            &mut cells[a..a + c],
+            &mut scales[b..b + w],
+        );
+        h += 1;
+    }
+}
+
+fn clear_side(shape: Shape, p: usize, n: usize, cells: &mut [u8], scales: &mut [u32])
+    requires { ⌜ Fits sideSize shape p n (length (now cells)) (length (now scales)) ⌝ }
+    ensures cells { λ _. ⌜ now (cells .exit) ≡ putSide (bytesOf shape) shape p n (zeros (bytesOf shape) 0) (now (cells .entry)) ⌝ }
+    ensures scales { λ _. ⌜ now (scales .exit) ≡ putSide (wordsOf shape) shape p n (zeros (wordsOf shape) 0) (now (scales .entry)) ⌝ }
+{
+    let c = shape.capacity as usize * cell_bytes(shape.format, shape.head_size);
+    let w = shape.capacity as usize * scale_words(shape.format, shape.head_size);
+    let mut h = 0;
+    while h < shape.heads as usize {
+        let a = h * c;
+        let b = h * w;
+        clear_block(shape, p, n, &mut cells[a..a + c], &mut scales[b..b + w]);
+        h += 1;
+    }
+}
+
+fn put_block(
+    shape: Shape,
+    h: usize,
+    p: usize,
+    n: usize,
+    numbers: &[u32],
+    cells: &mut [u8],
+    scales: &mut [u32],
+)
+    requires { ⌜ Fits blockSize shape p n (length (now cells)) (length (now scales)) ⌝ }
+    requires { ⌜ (h < shape .heads) × (length (now numbers) ≡ n * width shape) ⌝ }
+    ensures cells { λ _. ⌜ now (cells .exit) ≡ put (bytesOf shape) p n (cellRow shape (now (numbers .entry)) h) (now (cells .entry)) ⌝ }
+    ensures scales { λ _. ⌜ now (scales .exit) ≡ put (wordsOf shape) p n (scaleRow shape (now (numbers .entry)) h) (now (scales .entry)) ⌝ }
+{
+    let c = cell_bytes(shape.format, shape.head_size);
+    let w = scale_words(shape.format, shape.head_size);
+    let a = p * c;
+    let b = p * w;
+    put_rows(
+        shape,
+        h,
+        n,
+        numbers,
+        &mut cells[a..a + n * c],
+        &mut scales[b..b + n * w],
+    );
+}
+
+fn clear_block(shape: Shape, p: usize, n: usize, cells: &mut [u8], scales: &mut [u32])
+    requires { ⌜ Fits blockSize shape p n (length (now cells)) (length (now scales)) ⌝ }
+    ensures cells { λ _. ⌜ now (cells .exit) ≡ put (bytesOf shape) p n (zeros (bytesOf shape) 0 0) (now (cells .entry)) ⌝ }
+    ensures scales { λ _. ⌜ now (scales .exit) ≡ put (wordsOf shape) p n (zeros (wordsOf shape) 0 0) (now (scales .entry)) ⌝ }
+{
+    let c = cell_bytes(shape.format, shape.head_size);
+    let w = scale_words(shape.format, shape.head_size);
+    let a = p * c;
+    let b = p * w;
+    zero_cells(&mut cells[a..a + n * c]);
+    zero_words(&mut scales[b..b + n * w]);
+}
+
+// Head `h` of `n` positions, row after row.
+fn put_rows(shape: Shape, h: usize, n: usize, numbers: &[u32], cells: &mut [u8], scales: &mut [u32])
+    requires { ⌜ RowsFit shape h n (length (now numbers)) (length (now cells)) (length (now scales)) ⌝ }
+    ensures cells { λ _. ⌜ now (cells .exit) ≡ joined n (cellRow shape (now (numbers .entry)) h) ⌝ }
+    ensures scales { λ _. ⌜ now (scales .exit) ≡ joined n (scaleRow shape (now (numbers .entry)) h) ⌝ }
+{
+    let d = shape.head_size as usize;
+    let c = cell_bytes(shape.format, shape.head_size);
+    let w = scale_words(shape.format, shape.head_size);
+    let width = shape.heads as usize * d;
+    let mut i = 0;
+    while i < n {
+        let from = i * width + h * d;
+        let a = i * c;
+        let b = i * w;
+        put_row(
+            shape.format,
+            &numbers[from..from + d],
+            &mut cells[a..a + c],
+            &mut scales[b..b + w],
+        );
+        i += 1;
+    }
+}
+
+// Zeroes every cell.
+pub fn zero_cells(cells: &mut [u8])
+    ensures { λ _. ⌜ now (cells .exit) ≡ replicate (length (now (cells .entry))) 0 ⌝ }
+{
+    let mut i = 0;
+    while i < cells.len() {
+        cells[i] = 0;
+        i += 1;
+    }
+}
+
+// Zeroes every scale word.
+pub fn zero_words(words: &mut [u32])
+    ensures { λ _. ⌜ now (words .exit) ≡ replicate (length (now (words .entry))) 0 ⌝ }
+{
+    let mut i = 0;
+    while i < words.len() {
+        words[i] = 0;
+        i += 1;
+    }
+}
