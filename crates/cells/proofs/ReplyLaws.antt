@@ -1,13 +1,13 @@
 -- What reply 0 says of the arguments of each call: the conditions that the functions inside ask for.
 -- Each holds since no refusal of the call applies, and each refusal is a test that then ended the other way.
-use mathlib.Core.Path.{_≡_, refl, sym, _∙_}
+use mathlib.Core.Path.{_≡_, refl}
 use mathlib.Core.Bool.{true}
-use mathlib.Core.List.{List, _++_}
+use mathlib.Core.List.{_++_}
 use Prim.Native.Nat.{ℕ, _≤_}
 use native.Mathlib.Omega.{arith}
 use borrow.Author.Tests.{ltb-true, leb-true, eqb-true, not-false}
-use Rattle.replies.specs.Outcome.{Refusal, lowest, outcome}
-use Rattle.replies.proofs.Refusals.{None, still-passed, still-refused, lowest-none, passed-before, refused-before, outcome-done, outcome-refused}
+use Rattle.replies.specs.Outcome.{lowest}
+use Rattle.replies.proofs.Refusals.{None, lowest-none}
 use Rattle.shapes.specs.declared.Shape.{Shape}
 use Rattle.shapes.specs.Shape.{headSize, roomRefusals, limits, within, exact}
 use Rattle.replies.proofs.Flags.{both}
@@ -15,24 +15,7 @@ use Rattle.shapes.proofs.ShapeLaws.{within-limits, exact-sizes}
 use Rattle.cells.specs.Calls.{appendRefusals, removeRefusals, readRefusals, overfull}
 use Rattle.cells.specs.Fits.{InRoom, RowsIn, RowIn}
 
--- what a call leaves whose reply r was tested by its number n
-module _ (a : List Refusal) {r n : ℕ} (e : r ≡ lowest a) (q : n ≡ r) where
-  pub call-done : {A : Type 0} {new left : A} (old : A) → n ≡ 0 → left ≡ new → record { reply = r; left = left } ≡ outcome a new old
-  call-done {new = new} old z w = rw (outcome-done a new old (still-passed q e z), w, sym q ∙ z)
-
-  pub call-refused : {A : Type 0} {old : A} (new : A) → (n ≡ 0 → ⊥) → record { reply = r; left = old } ≡ outcome a new old
-  call-refused {old = old} new h = rw (outcome-refused a new old (still-refused q e h), e)
-
 module _ (s : Shape) (cells scales : ℕ) where
-  -- a reply of the room decides before the refusals of the call, and hands on to them
-  pub room-refused : (b : List Refusal) {r n : ℕ} → r ≡ lowest (roomRefusals s cells scales) → n ≡ r → (n ≡ 0 → ⊥)
-      → r ≡ lowest (roomRefusals s cells scales ++ b)
-  room-refused b e q h = e ∙ sym (refused-before (roomRefusals s cells scales) b (still-refused q e h))
-
-  pub past-room : (b : List Refusal) {x : ℕ} → lowest (roomRefusals s cells scales) ≡ 0 → x ≡ lowest b
-      → x ≡ lowest (roomRefusals s cells scales ++ b)
-  past-room b h e = e ∙ sym (passed-before (roomRefusals s cells scales) b (lowest-none 0 (roomRefusals s cells scales) refl h))
-
   pub room-limits : lowest (roomRefusals s cells scales) ≡ 0 → limits s ≡ true
   room-limits h = within-limits s (not-false (within s) (lowest-none 0 (roomRefusals s cells scales) refl h .0))
 

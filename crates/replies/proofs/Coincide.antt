@@ -29,7 +29,10 @@ pub same-reply : (r r′ : Reply) → replyNumber r ≡ replyNumber r′ → r �
 same-reply r r′ e = sym (back r) ∙ ap replyOf e ∙ back r′
 
 -- whatever a call may answer and leave under a statement o, it answers and leaves one thing
-pub coincide : {A : Type 0} (r r′ : Reply) (x x′ : A) {o : Outcome A} → answered r x ≡ o → answered r′ x′ ≡ o → (r ≡ r′) × (x ≡ x′)
-coincide {A} r r′ x x′ e e′ =
+abbrev pub One : {A : Type 0} → Outcome A → Type 0
+One {A} o = (r r′ : Reply) (x x′ : A) → answered r x ≡ o → answered r′ x′ ≡ o → (r ≡ r′) × (x ≡ x′)
+
+pub coincide : {A : Type 0} (o : Outcome A) → One o
+coincide {A} o r r′ x x′ e e′ =
     let q = e ∙ sym e′ in
     (same-reply r r′ (ap (λ (o : Outcome A). o .reply) q), ap (λ (o : Outcome A). o .left) q)

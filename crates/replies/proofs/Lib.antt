@@ -1,3 +1,4 @@
 pub mod Coincide
 pub mod Flags
 pub mod Refusals
+pub mod Tested

@@ -3,9 +3,9 @@
 use mathlib.Core.Path.{_≡_, ap, _∙_}
 use mathlib.Core.List.{List}
 use Prim.Native.Nat.{ℕ}
-use Rattle.replies.specs.Outcome.{Outcome, answered}
+use Rattle.replies.specs.Outcome.{Outcome}
 use Rattle.replies.specs.declared.Reply.{Reply}
-use Rattle.replies.proofs.Coincide.{coincide}
+use Rattle.replies.proofs.Coincide.{One, coincide}
 use Rattle.shapes.specs.declared.Shape.{Shape}
 use Rattle.rows.specs.Calls.{Buffers}
 use Rattle.store.specs.declared.Record.{Record}
@@ -21,7 +21,7 @@ same-counted : (a a′ : Counted) → a .reply ≡ a′ .reply → a .count ≡ 
 same-counted a a′ p q =
     ap (λ (x : Reply). record { reply = x; count = a .count }) p ∙ ap (λ (x : ℕ). record { reply = a′ .reply; count = x }) q
 
--- one reply, one record and one content of both buffers meet a statement; one reply and record; one reply and count; one reply and output
+-- one reply, one record and one content of both buffers meet a statement; one reply and record; one reply and count
 abbrev pub OneStore : Outcome Store → Type 0
 OneStore o = (a a′ : Changed) (c c′ w w′ : List ℕ) → left a c w ≡ o → left a′ c′ w′ ≡ o → (a ≡ a′) × (c ≡ c′) × (w ≡ w′)
 
@@ -31,22 +31,19 @@ OneRecord o = (a a′ : Changed) → changed a ≡ o → changed a′ ≡ o → 
 abbrev pub OneCount : Outcome ℕ → Type 0
 OneCount o = (a a′ : Counted) → counted a ≡ o → counted a′ ≡ o → a ≡ a′
 
-abbrev pub OneRow : Outcome (List ℕ) → Type 0
-OneRow o = (r r′ : Reply) (out out′ : List ℕ) → answered r out ≡ o → answered r′ out′ ≡ o → (r ≡ r′) × (out ≡ out′)
-
 one-store : (o : Outcome Store) → OneStore o
 one-store o a a′ c c′ w w′ e e′ =
-    let s = coincide (a .reply) (a′ .reply) _ _ e e′ in (
+    let s = coincide o (a .reply) (a′ .reply) _ _ e e′ in (
       same-changed a a′ (s .0) (ap (λ (x : Store). x .rec) (s .1)),
       ap (λ (x : Store). x .lent .cells) (s .1),
       ap (λ (x : Store). x .lent .scales) (s .1),
     )
 
 one-record : (o : Outcome Record) → OneRecord o
-one-record o a a′ e e′ = let s = coincide (a .reply) (a′ .reply) _ _ e e′ in same-changed a a′ (s .0) (s .1)
+one-record o a a′ e e′ = let s = coincide o (a .reply) (a′ .reply) _ _ e e′ in same-changed a a′ (s .0) (s .1)
 
 one-count : (o : Outcome ℕ) → OneCount o
-one-count o a a′ e e′ = let s = coincide (a .reply) (a′ .reply) _ _ e e′ in same-counted a a′ (s .0) (s .1)
+one-count o a a′ e e′ = let s = coincide o (a .reply) (a′ .reply) _ _ e e′ in same-counted a a′ (s .0) (s .1)
 
 -- each call
 pub open-determined : (s : Shape) (b : Buffers) → OneStore (openOf s b)
@@ -68,5 +65,5 @@ module _ (r : Record) where
   pub memory-bytes-determined : OneCount (memoryBytesOf r)
   memory-bytes-determined = one-count (memoryBytesOf r)
 
-  pub read-determined : (b : Buffers) (l side h p : ℕ) (out : List ℕ) → OneRow (readOf r b l side h p out)
-  read-determined b l side h p out a a′ x x′ e e′ = coincide a a′ x x′ e e′
+  pub read-determined : (b : Buffers) (l side h p : ℕ) (out : List ℕ) → One (readOf r b l side h p out)
+  read-determined b l side h p out = coincide (readOf r b l side h p out)

@@ -1,16 +1,17 @@
 -- Each return knows how the tests before it ended, and past the room's test a position has a number.
-use mathlib.Core.Path.{_≡_, sym, _∙_}
+use mathlib.Core.Path.{_≡_, refl, sym, _∙_}
 use mathlib.Core.List.{_++_}
 use Prim.Native.Nat.{ℕ}
 use native.Mathlib.Omega.{arith}
 use borrow.Author.Needs.{needs}
 use borrow.Author.Tests.{lt-ltb, le-ltb, eq-eqb, ne-eqb}
 use Rattle.replies.specs.Outcome.{lowest}
+use Rattle.replies.proofs.Tested.{first-refused, first-passed}
 use Rattle.shapes.specs.Shape.{roomRefusals}
 use Rattle.cells.specs.Calls.{appendRefusals}
 use Rattle.shapes.proofs.ShapeLaws.{width-in}
 use Rattle.layers.proofs.FitLaws.{start-over, span-over, span-within}
-use Rattle.cells.proofs.ReplyLaws.{room-refused, past-room, room-limits}
+use Rattle.cells.proofs.ReplyLaws.{room-limits}
 use Rattle.cells.proofs.append_reply.Statement.{statement}
 use Rattle.cells.proofs.append_reply.Tie as tie
 
@@ -21,7 +22,7 @@ number-requires : tie.Need-number-requires
 number-requires c κs = search needs
 
 returns : tie.Need-returns
-returns c = room-refused _ _ _ _ (c .before .before .room-reply .ensures) (c .before .number .ensures) (c .if1 .taken)
+returns c = first-refused _ (c .before .before .room-reply .ensures) (c .before .number .ensures) _ (c .if1 .taken)
 
 -- past the room's test, no refusal of the room applies
 passed : (c : tie.Else1) → let a = c .before .before .before .args in lowest (roomRefusals (a .shape) (a .cells) (a .scales)) ≡ 0
@@ -32,7 +33,7 @@ past : (c : tie.Else1) {x : ℕ}
     → let a = c .before .before .before .args in
     x ≡ lowest (appendRefusals (a .shape) (a .layer) (a .held) (a .keys) (a .values))
     → x ≡ lowest (roomRefusals (a .shape) (a .cells) (a .scales) ++ appendRefusals (a .shape) (a .layer) (a .held) (a .keys) (a .values))
-past c e = past-room _ _ _ _ (passed c) e
+past c e = first-passed _ (c .before .before .room-reply .ensures) (c .before .number .ensures) _ refl (c .if1 .left) e
 
 returns-2 : tie.Need-returns-2
 unfolding lowest

@@ -2,7 +2,8 @@
 use borrow.Author.Needs.{needs}
 use Rattle.replies.proofs.Refusals.{still-passed}
 use Rattle.cells.specs.Calls.{appendRowsOf}
-use Rattle.cells.proofs.ReplyLaws.{call-done, call-refused, append-fits}
+use Rattle.replies.proofs.Tested.{call-done, call-refused}
+use Rattle.cells.proofs.ReplyLaws.{append-fits}
 use Rattle.cells.proofs.append_rows.Statement.{statement}
 use Rattle.cells.proofs.append_rows.Tie as tie
 

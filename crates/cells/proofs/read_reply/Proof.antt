@@ -1,5 +1,5 @@
 -- Each return knows how the tests before it ended.
-use mathlib.Core.Path.{_≡_, sym, _∙_}
+use mathlib.Core.Path.{_≡_, refl}
 use mathlib.Core.List.{_++_}
 use Prim.Native.Nat.{ℕ, _≤_}
 use mathlib.Core.Bool.{true}
@@ -8,9 +8,9 @@ use borrow.Author.Needs.{needs}
 use lib.Dec.{ltb}
 use borrow.Author.Tests.{lt-ltb, le-ltb, le-leb, lt-leb, eq-eqb, ne-eqb}
 use Rattle.replies.specs.Outcome.{lowest}
+use Rattle.replies.proofs.Tested.{first-refused, first-passed}
 use Rattle.shapes.specs.Shape.{roomRefusals}
 use Rattle.cells.specs.Calls.{readRefusals, overfull}
-use Rattle.cells.proofs.ReplyLaws.{room-refused, past-room}
 use Rattle.cells.proofs.read_reply.Statement.{statement}
 use Rattle.cells.proofs.read_reply.Tie as tie
 
@@ -21,7 +21,7 @@ number-requires : tie.Need-number-requires
 number-requires c κs = search needs
 
 returns : tie.Need-returns
-returns c = room-refused _ _ _ _ (c .before .before .room-reply .ensures) (c .before .number .ensures) (c .if1 .taken)
+returns c = first-refused _ (c .before .before .room-reply .ensures) (c .before .number .ensures) _ (c .if1 .taken)
 
 -- past the room's test, the lowest refusal is the call's own
 past : (c : tie.Else1) {x : ℕ}
@@ -29,7 +29,7 @@ past : (c : tie.Else1) {x : ℕ}
     x ≡ lowest (readRefusals (a .shape) (a .layer) (a .held) (a .side) (a .head) (a .position) (a .out) ++ overfull (a .shape) (a .held))
     → x ≡ lowest
     (roomRefusals (a .shape) (a .cells) (a .scales) ++ (readRefusals (a .shape) (a .layer) (a .held) (a .side) (a .head) (a .position) (a .out) ++ overfull (a .shape) (a .held)))
-past c e = past-room _ _ _ _ (sym (c .before .before .room-reply .ensures) ∙ sym (c .before .number .ensures) ∙ c .if1 .left) e
+past c e = first-passed _ (c .before .before .room-reply .ensures) (c .before .number .ensures) _ refl (c .if1 .left) e
 
 -- a side up to 1 is below 2
 one-side : (side : ℕ) → side ≤ 1 → ltb side 2 ≡ true

@@ -2,7 +2,8 @@
 use borrow.Author.Needs.{needs}
 use Rattle.replies.proofs.Refusals.{still-passed}
 use Rattle.cells.specs.Calls.{readRowOf}
-use Rattle.cells.proofs.ReplyLaws.{call-done, call-refused, read-fits}
+use Rattle.replies.proofs.Tested.{call-done, call-refused}
+use Rattle.cells.proofs.ReplyLaws.{read-fits}
 use Rattle.cells.proofs.read_row.Statement.{statement}
 use Rattle.cells.proofs.read_row.Tie as tie
 

@@ -1,13 +1,13 @@
 -- Each return knows how the tests before it ended.
-use mathlib.Core.Path.{_≡_, sym, _∙_}
+use mathlib.Core.Path.{_≡_, refl}
 use mathlib.Core.List.{_++_}
 use Prim.Native.Nat.{ℕ}
 use borrow.Author.Needs.{needs}
 use borrow.Author.Tests.{lt-ltb, le-ltb, le-leb, lt-leb}
 use Rattle.replies.specs.Outcome.{lowest}
+use Rattle.replies.proofs.Tested.{first-refused, first-passed}
 use Rattle.shapes.specs.Shape.{roomRefusals}
 use Rattle.cells.specs.Calls.{removeRefusals, overfull}
-use Rattle.cells.proofs.ReplyLaws.{room-refused, past-room}
 use Rattle.cells.proofs.remove_reply.Statement.{statement}
 use Rattle.cells.proofs.remove_reply.Tie as tie
 
@@ -18,14 +18,14 @@ number-requires : tie.Need-number-requires
 number-requires c κs = search needs
 
 returns : tie.Need-returns
-returns c = room-refused _ _ _ _ (c .before .before .room-reply .ensures) (c .before .number .ensures) (c .if1 .taken)
+returns c = first-refused _ (c .before .before .room-reply .ensures) (c .before .number .ensures) _ (c .if1 .taken)
 
 -- past the room's test, the lowest refusal is the call's own
 past : (c : tie.Else1) {x : ℕ}
     → let a = c .before .before .before .args in
     x ≡ lowest (removeRefusals (a .shape) (a .layer) ++ overfull (a .shape) (a .held))
     → x ≡ lowest (roomRefusals (a .shape) (a .cells) (a .scales) ++ (removeRefusals (a .shape) (a .layer) ++ overfull (a .shape) (a .held)))
-past c e = past-room _ _ _ _ (sym (c .before .before .room-reply .ensures) ∙ sym (c .before .number .ensures) ∙ c .if1 .left) e
+past c e = first-passed _ (c .before .before .room-reply .ensures) (c .before .number .ensures) _ refl (c .if1 .left) e
 
 returns-2 : tie.Need-returns-2
 unfolding lowest

@@ -2,7 +2,8 @@
 use borrow.Author.Needs.{needs}
 use Rattle.replies.proofs.Refusals.{still-passed}
 use Rattle.cells.specs.Calls.{removeRowsOf}
-use Rattle.cells.proofs.ReplyLaws.{call-done, call-refused, remove-fits}
+use Rattle.replies.proofs.Tested.{call-done, call-refused}
+use Rattle.cells.proofs.ReplyLaws.{remove-fits}
 use Rattle.cells.proofs.remove_rows.Statement.{statement}
 use Rattle.cells.proofs.remove_rows.Tie as tie
 
