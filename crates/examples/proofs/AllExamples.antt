@@ -6,7 +6,7 @@ use lib.Ieee.{lt, eq, div, mul, ofBits, toBits, ofInt}
 use Rattle.lists.specs.Chunks.{tab, joined, at, each, turns, some}
 use Rattle.numbers.specs.Word.{bf16}
 use Rattle.numbers.specs.Scale.{magnitude, larger, largestFrom, largest, scaleOf}
-use Rattle.numbers.specs.Code.{nearestWhole, held, code8, code4, read4}
+use Rattle.numbers.specs.Code.{nearestWhole, held, code8, code4, less8, read4}
 use Rattle.groups.specs.Group.{packed, half, unpacked}
 use Rattle.replies.specs.Outcome.{lowest, outcome}
 use Rattle.shapes.specs.Shape.{ofFormat, cellBytes, scaleWords, total, limits, within, exact}
@@ -29,5 +29,5 @@ one-by-one [] h = tt
 one-by-one (P n asked said ∷ es) h = (cc, one-by-one es (cc))
 
 pub examples-hold : AllHold examples
-unfolding examples answer got wanted tab joined at each turns some bf16 magnitude larger largestFrom largest scaleOf nearestWhole held code8 code4 read4 packed half unpacked lt eq div mul ofBits toBits ofInt lowest outcome ofFormat cellBytes scaleWords total limits within exact little f32Cells bf16Cells int8Cells int8Scales int4Cells int4Scales rowCells rowScales put putSide putLayer written appended goodLengths openOf appendOf
+unfolding examples answer got wanted tab joined at each turns some bf16 magnitude larger largestFrom largest scaleOf nearestWhole held code8 code4 read4 less8 packed half unpacked lt eq div mul ofBits toBits ofInt lowest outcome ofFormat cellBytes scaleWords total limits within exact little f32Cells bf16Cells int8Cells int8Scales int4Cells int4Scales rowCells rowScales put putSide putLayer written appended goodLengths openOf appendOf
 examples-hold = one-by-one examples refl

@@ -34,6 +34,9 @@ code4 w scale = above 8 (held 8 7 (div binary32 (float w) scale))
 unfoldable pub read8 : ℕ → Float → Float
 read8 code scale = mul binary32 (whole (toZ w8 code)) scale
 
--- a stored INT4 code read: (code − 8) × scale, rounded once
+-- a stored INT4 code less 8, and read: (code − 8) × scale, rounded once
+unfoldable pub less8 : ℕ → Float
+less8 code = whole (minus code 8)
+
 unfoldable pub read4 : ℕ → Float → Float
-read4 code scale = mul binary32 (whole (minus code 8)) scale
+read4 code scale = mul binary32 (less8 code) scale

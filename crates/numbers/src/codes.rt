@@ -4,7 +4,7 @@ ghost use mathlib.Core.Path.{_≡_};
 ghost use Prim.Native.Nat.{_≤_};
 ghost use lib.Ieee.{binary32, div};
 ghost use Rattle.numbers.specs.Word.{float};
-ghost use Rattle.numbers.specs.Code.{held, above, code8, code4, read8, read4};
+ghost use Rattle.numbers.specs.Code.{held, above, code8, code4, read8, less8, read4};
 
 // A magnitude to the nearest whole number, halves upwards, and no more than 128. `bits` is its pattern.
 fn nearest_whole(bits: u32) -> u32
@@ -64,9 +64,16 @@ pub fn dequantize_i8(code: u8, scale: f32) -> f32
     (raised as f32 - 128.0) * scale
 }
 
+// The number that a stored INT4 code stands for under the scale 1.0.
+pub fn less_8(code: u8) -> f32
+    ensures { λ r. ⌜ r ≡ less8 code ⌝ }
+{
+    code as f32 - 8.0
+}
+
 // The number that a stored INT4 code reads as.
 pub fn dequantize_i4(code: u8, scale: f32) -> f32
     ensures { λ r. ⌜ r ≡ read4 code scale ⌝ }
 {
-    (code as f32 - 8.0) * scale
+    less_8(code) * scale
 }
