@@ -6,9 +6,10 @@ use Prim.Native.Nat.{ℕ, zero, suc, _+_, _≤_, _<_, suc-le-suc}
 use native.Mathlib.Nat.{not-suc-le-zero, le-of-suc-le-suc, zero-add, suc-add, zero-lt-suc}
 use native.Mathlib.Numerals.{add-one}
 use native.Mathlib.Omega.{arith}
-use lib.ListN.{length, getD, set, drop, length-append, length-drop, drop-of-length-le}
-use lib.Seq.{drop-cons, set-at, append-snoc, ext-getD}
-use Rattle.lists.specs.Chunks.{tab}
+use lib.ListN.{length, getD, set, drop, replicate, length-append, length-drop, drop-of-length-le}
+use lib.Seq.{drop-cons, set-at, append-snoc, ext-getD, getD-at, getD-take, getD-drop}
+use Rattle.lists.specs.Chunks.{tab, part}
+use Rattle.lists.proofs.Part.{part-length}
 
 module _ {A : Type 0} where
   -- n values
@@ -28,6 +29,16 @@ module _ {A : Type 0} where
   pub tab-of : (n : ℕ) (f : ℕ → A) (l : List A) (d : A) → length l ≡ n → ((i : ℕ) → i < n → getD l i d ≡ f i) → l ≡ tab n f
   tab-of n f l d e v =
       ext-getD d l (tab n f) (rw tab-length e) (λ i h. let b : i < n = omega arith in rw tab-getD (v i b))
+
+  -- a part is the table of its values
+  pub part-tab : (a k : ℕ) (l : List A) (d : A) → a + k ≤ length l → part a k l ≡ tab k (λ i. getD l (a + i) d)
+  part-tab a k l d h = tab-of k _ (part a k l) d (part-length a k l h) (λ i b. rw (getD-take, getD-drop))
+
+  -- equal values
+  pub tab-replicate : (n : ℕ) (z : A) → replicate n z ≡ tab n (λ i. z)
+  unfolding tab
+  tab-replicate zero z = refl
+  tab-replicate (suc n) z = rw (tab-replicate n z)
 
   -- functions that agree below n have one table
   pub tab-same : (n : ℕ) (f g : ℕ → A) → ((i : ℕ) → i < n → f i ≡ g i) → tab n f ≡ tab n g
@@ -60,7 +71,11 @@ module _ {A : Type 0} where
       → set out j v ≡ tab (j + 1) f ++ drop (j + 1) l
   tab-set j f l h o e = rw (o, e) (tab-turn j f l h)
 
-  -- filled up to j, a list has the length that it had
+  -- filled up to j, a list has at j what it had there
+  pub tab-next : (j : ℕ) (f : ℕ → A) (l : List A) (d : A) → j < length l → getD (tab j f ++ drop j l) j d ≡ getD l j d
+  tab-next j f l d h = rw (drop-cons l j d) (getD-at (tab j f) (getD l j d) (drop (suc j) l) d j (tab-length j f))
+
+  -- and the length that it had
   pub tab-filled : (j : ℕ) (f : ℕ → A) (l : List A) → j ≤ length l → length (tab j f ++ drop j l) ≡ length l
   tab-filled j f l h = simp (length-append, tab-length, length-drop) (omega arith)
 

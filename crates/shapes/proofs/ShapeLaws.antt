@@ -58,14 +58,19 @@ pub of-format : (P : ℕ → Type 0) (format a b d e : ℕ) → P a → P b → 
 unfolding ofFormat
 of-format P format a b d e pa pb pd pe = pick P (eqb format 0) pa (pick P (eqb format 1) pb (pick P (eqb format 2) pd pe))
 
--- a row has no more than 1,024 cells, and no more than 8 scale words
+-- a row of up to 256 numbers has no more than 1,024 cells, and no more scale words
+pub row-most : (format d : ℕ) → d ≤ 256 → (cellBytes format d ≤ 1024) × (scaleWords format d ≤ 1024)
+unfolding cellBytes scaleWords
+row-most format d h = (
+  of-format (λ x. x ≤ 1024) format _ _ _ _ (omega arith) (omega arith) (omega arith) (omega arith),
+  of-format (λ x. x ≤ 1024) format _ _ _ _ (omega arith) (omega arith) (omega arith) (omega arith),
+)
+
 pub cell-bytes-most : (s : Shape) → Limits s → bytesOf s ≤ 1024
-unfolding cellBytes
-cell-bytes-most s h = of-format (λ x. x ≤ 1024) (s .format) _ _ _ _ (omega arith) (omega arith) (omega arith) (omega arith)
+cell-bytes-most s h = row-most (s .format) (headSize s) (h .size-in .1) .0
 
 pub scale-words-most : (s : Shape) → Limits s → wordsOf s ≤ 1024
-unfolding scaleWords
-scale-words-most s h = of-format (λ x. x ≤ 1024) (s .format) _ _ _ _ (omega arith) (omega arith) (omega arith) (omega arith)
+scale-words-most s h = row-most (s .format) (headSize s) (h .size-in .1) .1
 
 -- a position has a number, and not many
 pub width-in : (s : Shape) → limits s ≡ true → (1 ≤ width s) × (width s ≤ 16384)

@@ -1,0 +1,3 @@
+pub mod BlockLaws
+pub mod OrderLaws
+pub mod RowLaws

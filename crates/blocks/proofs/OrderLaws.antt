@@ -1,0 +1,70 @@
+-- Scores and sums of positions that agree, and terms added to a sum and to a list of sums: place by place, a stretch at a time, position after position.
+-- Each holds by the laws of tables and turns, since a place's sum takes its own terms alone, in their order.
+use mathlib.Core.Path.{_≡_, refl, _∙_}
+use mathlib.Core.List.{List, _++_, append-assoc}
+use Prim.Native.Nat.{ℕ, zero, suc, _+_, _-_, _≤_, _<_}
+use native.Mathlib.Numerals.{add-one}
+use native.Mathlib.Omega.{arith}
+use lib.ListN.{length, getD, set, take, drop, replicate}
+use lib.Seq.{take-at, drop-at, drop-drop, getD-take, getD-drop}
+use lib.Ieee.{Float, nan, binary32, add}
+use Rattle.lists.specs.Chunks.{tab, turns, part}
+use Rattle.lists.proofs.Tab.{tab-length, tab-getD, tab-same, tab-replicate, tab-add, tab-set, tab-next, tab-done}
+use Rattle.lists.proofs.Turns.{turns-next, turns-same}
+use Rattle.lists.proofs.Part.{part-length}
+use Rattle.numbers.specs.Word.{float}
+use Rattle.blocks.specs.Order.{summed, scoresOf, sumsOf, added}
+
+-- positions that agree have the same scores, and the same sums
+pub scores-same : (m : ℕ) (dot dot′ : ℕ → Float) (x : Float) → ((p : ℕ) → p < m → dot p ≡ dot′ p) → scoresOf m dot x ≡ scoresOf m dot′ x
+unfolding scoresOf
+scores-same m dot dot′ x e = tab-same m _ _ (λ p u. rw (e p u))
+
+pub sums-same : (d m : ℕ) (term term′ : ℕ → ℕ → Float) → ((p i : ℕ) → p < m → term p i ≡ term′ p i) → sumsOf d m term ≡ sumsOf d m term′
+unfolding sumsOf summed
+sums-same d m term term′ e = tab-same d _ _ (λ i w. turns-same m _ _ _ (λ p u. rw (e p i u)))
+
+-- one term more
+pub summed-next : (n : ℕ) (term : ℕ → Float) {x y : Float} → x ≡ summed n term → y ≡ add binary32 x (term n) → y ≡ summed (n + 1) term
+unfolding summed
+summed-next n term o e = turns-next n (λ i sum. add binary32 sum (term i)) (float 0) o e
+
+-- the two loop orders: one position's terms added to the sums of the positions before it, and all positions
+pub rows-turn : (d p : ℕ) (term : ℕ → ℕ → Float) {cur : List Float} → cur ≡ sumsOf d p term → added (term p) cur ≡ sumsOf d (p + 1) term
+unfolding added sumsOf
+rows-turn d p term e = rw (e, tab-length) (tab-same d _ _ (λ i b. rw tab-getD (summed-next p (λ q. term q i) refl refl)))
+
+pub rows-columns : (d m : ℕ) (term : ℕ → ℕ → Float) → turns m (λ p. added (term p)) (replicate d (float 0)) ≡ sumsOf d m term
+unfolding turns sumsOf summed
+rows-columns d zero term = tab-replicate d (float 0)
+rows-columns d (suc m) term = rows-turn d m term (rows-columns d m term) ∙ rw add-one
+
+-- l with its term added at each of the first j places
+abbrev pub addedTo : ℕ → (ℕ → Float) → List Float → List Float
+addedTo j term l = tab j (λ i. add binary32 (getD l i nan) (term i)) ++ drop j l
+
+module _ (term : ℕ → Float) (l : List Float) where
+  -- at the next place, which was read and is stored
+  pub added-next : (j : ℕ) {out : List Float} {v : Float} → j < length l → out ≡ addedTo j term l → v ≡ add binary32 (getD out j nan) (term j)
+      → set out j v ≡ addedTo (j + 1) term l
+  added-next j h o e = tab-set j _ l h o (e ∙ rw (o, tab-next))
+
+  -- at the next k places, lent as `&mut out[j..e]` and handed back with k terms added
+  added-part : (j k : ℕ) (those : ℕ → Float) → j + k ≤ length l → ((i : ℕ) → i < k → those i ≡ term (j + i))
+      → added those (part j k l) ≡ tab k (λ i. add binary32 (getD l (j + i) nan) (term (j + i)))
+  unfolding added
+  added-part j k those h same = rw (part-length j k l h) (tab-same k _ _ (λ i b. rw (getD-take, getD-drop, same i b)))
+
+  pub added-lent : (j k : ℕ) (those : ℕ → Float) {e n : ℕ} {out y : List Float} → out ≡ addedTo j term l → j + k ≡ e → j + k ≡ n
+      → e ≤ length l → ((i : ℕ) → i < k → those i ≡ term (j + i)) → y ≡ added those (part j (e - j) out)
+      → take j out ++ (y ++ drop (e - j) (drop j out)) ≡ addedTo n term l
+  added-lent j k those {e} o q r h same given =
+      let w : e - j ≡ k = omega arith in
+      let s = tab-length j (λ i. add binary32 (getD l i nan) (term i)) in
+      let t = added-part j k those (omega arith) same in
+      rw (given, w, o, take-at _ (drop j l) j s, drop-at _ (drop j l) j s, t, ← r, tab-add, append-assoc, drop-drop)
+
+  -- at every place
+  pub added-all : {j : ℕ} {out : List Float} → out ≡ addedTo j term l → j ≡ length l → out ≡ added term l
+  unfolding added
+  added-all o e = tab-done (length l) _ l o e refl

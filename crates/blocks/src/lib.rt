@@ -1,0 +1,157 @@
+// Blocks: the first positions of one head's block, scored under a query or summed under weights, in the Rust's order of float operations.
+pub(crate) mod scores;
+pub(crate) mod sums;
+
+use replies::Reply;
+use scores::score_row;
+use shapes::cell_bytes;
+use shapes::of_format;
+use shapes::scale_words;
+use sums::add_row;
+ghost use mathlib.Core.Path.{_≡_};
+ghost use lib.ListN.{length, replicate};
+ghost use Rattle.lists.specs.Chunks.{turns};
+ghost use Rattle.numbers.specs.Word.{float};
+ghost use Rattle.replies.specs.Outcome.{answered};
+ghost use Rattle.rows.specs.Calls.{buffers};
+ghost use Rattle.blocks.specs.Order.{hasScores, added};
+ghost use Rattle.blocks.specs.Block.{blockScores, blockTerm, blockSums, isBlock, blockScoresOf, blockSumsOf};
+ghost use Rattle.blocks.specs.Fits.{Rows};
+
+// Scores as many positions as `out` has places, under a query. The first half of the Rust's `decode_head_attention_f32` and `decode_head_attention_int4`.
+pub fn block_scores(
+    format: u32,
+    query: &[f32],
+    scale: f32,
+    cells: &[u8],
+    scales: &[u32],
+    out: &mut [f32],
+) -> Reply
+    ensures { λ r.
+        ⌜
+        answered r (now (out .exit))
+        ≡ blockScoresOf format (now (query .entry)) scale (buffers (now (cells .entry)) (now (scales .entry))) (now (out .entry))
+        ⌝ }
+{
+    if !has_scores(format) {
+        return Reply::Format;
+    }
+    if !is_block(format, query.len(), out.len(), cells.len(), scales.len()) {
+        return Reply::Size;
+    }
+    score_rows(format, query, scale, cells, scales, out);
+    Reply::Done
+}
+
+// Sums as many positions as there are weights. The second half of the same.
+pub fn block_sums(
+    format: u32,
+    weights: &[f32],
+    cells: &[u8],
+    scales: &[u32],
+    out: &mut [f32],
+) -> Reply
+    ensures { λ r.
+        ⌜
+        answered r (now (out .exit))
+        ≡ blockSumsOf format (now (weights .entry)) (buffers (now (cells .entry)) (now (scales .entry))) (now (out .entry))
+        ⌝ }
+{
+    if !has_scores(format) {
+        return Reply::Format;
+    }
+    if !is_block(format, out.len(), weights.len(), cells.len(), scales.len()) {
+        return Reply::Size;
+    }
+    sum_rows(format, weights, cells, scales, out);
+    Reply::Done
+}
+
+// Whether a format has scores and sums.
+pub fn has_scores(format: u32) -> bool
+    ensures { λ r. ⌜ r ≡ hasScores format ⌝ }
+{
+    if format == 0 { true } else { format == 3 }
+}
+
+// Whether the lengths are those of `m` rows of `d` numbers.
+fn is_block(format: u32, d: usize, m: usize, cells: usize, scales: usize) -> bool
+    ensures { λ r. ⌜ r ≡ isBlock format d m cells scales ⌝ }
+{
+    if 256 < d {
+        return false;
+    }
+    if 4096 < m {
+        return false;
+    }
+    if of_format(format, 0, 0, 0, d % 32) != 0 {
+        return false;
+    }
+    if cells != m * cell_bytes(format, d as u32) {
+        return false;
+    }
+    scales == m * scale_words(format, d as u32)
+}
+
+fn score_rows(format: u32, query: &[f32], scale: f32, cells: &[u8], scales: &[u32], out: &mut [f32])
+    requires { ⌜ Rows format (length (now query)) (length (now out)) (length (now cells)) (length (now scales)) ⌝ }
+    ensures { λ _.
+        ⌜
+        now (out .exit)
+        ≡ blockScores format (now (query .entry)) scale (buffers (now (cells .entry)) (now (scales .entry))) (length (now (out .entry)))
+        ⌝ }
+{
+    let c = cell_bytes(format, query.len() as u32);
+    let w = scale_words(format, query.len() as u32);
+    let mut p = 0;
+    while p < out.len() {
+        let a = p * c;
+        let b = p * w;
+        out[p] = score_row(format, query, scale, &cells[a..a + c], &scales[b..b + w]);
+        p += 1;
+    }
+}
+
+fn sum_rows(format: u32, weights: &[f32], cells: &[u8], scales: &[u32], out: &mut [f32])
+    requires { ⌜ Rows format (length (now out)) (length (now weights)) (length (now cells)) (length (now scales)) ⌝ }
+    ensures { λ _.
+        ⌜
+        now (out .exit)
+        ≡ blockSums format (now (weights .entry)) (buffers (now (cells .entry)) (now (scales .entry))) (length (now (out .entry)))
+        ⌝ }
+{
+    zero_numbers(out);
+    add_rows(format, weights, cells, scales, out);
+}
+
+fn zero_numbers(out: &mut [f32])
+    ensures { λ _. ⌜ now (out .exit) ≡ replicate (length (now (out .entry))) (float 0) ⌝ }
+{
+    let mut i = 0;
+    while i < out.len() {
+        out[i] = 0.0;
+        i += 1;
+    }
+}
+
+// Adds the terms of each position to what is there.
+fn add_rows(format: u32, weights: &[f32], cells: &[u8], scales: &[u32], out: &mut [f32])
+    requires { ⌜ Rows format (length (now out)) (length (now weights)) (length (now cells)) (length (now scales)) ⌝ }
+    ensures { λ _.
+        ⌜
+        now (out .exit)
+        ≡ turns (length (now (weights .entry)))
+        (λ p. added (blockTerm format (now (weights .entry)) (buffers (now (cells .entry)) (now (scales .entry))) (length (now (out .entry))) p))
+        (now (out .entry))
+        ⌝ }
+{
+    let c = cell_bytes(format, out.len() as u32);
+    let w = scale_words(format, out.len() as u32);
+    let mut p = 0;
+    while p < weights.len() {
+        let a = p * c;
+        let b = p * w;
+        add_row(format, weights[p], &cells[a..a + c], &scales[b..b + w], out);
+        p += 1;
+    }
+}

@@ -1,0 +1,77 @@
+// One weighted row added to a head's sums, in each format that has them.
+use numbers::codes::less_8;
+use numbers::words::word_to_f32;
+use rows::word_of_bytes;
+ghost use mathlib.Core.Path.{_≡_};
+ghost use Prim.Native.Nat.{_/_, _%_, _^_, _≤_};
+ghost use lib.ListN.{length};
+ghost use lib.Ieee.{binary32, mul};
+ghost use Rattle.numbers.specs.Code.{less8};
+ghost use Rattle.blocks.specs.Order.{groupCode, f32Term, int4Term, rowTerm, added};
+ghost use Rattle.blocks.specs.Fits.{Rows, IsF32, IsInt4};
+
+pub(crate) fn add_row(format: u32, weight: f32, cells: &[u8], scales: &[u32], out: &mut [f32])
+    requires { ⌜ Rows format (length (now out)) 1 (length (now cells)) (length (now scales)) ⌝ }
+    ensures { λ _. ⌜ now (out .exit) ≡ added (rowTerm format weight (now (cells .entry)) (now (scales .entry))) (now (out .entry)) ⌝ }
+{
+    if format == 0 {
+        add_f32(weight, cells, out);
+        return;
+    }
+    add_int4(weight, cells, scales, out);
+}
+
+fn add_f32(weight: f32, cells: &[u8], out: &mut [f32])
+    requires { ⌜ IsF32 (length (now out)) (length (now cells)) ⌝ }
+    ensures { λ _. ⌜ now (out .exit) ≡ added (f32Term weight (now (cells .entry))) (now (out .entry)) ⌝ }
+{
+    let mut d = 0;
+    while d < out.len() {
+        let a = d * 4;
+        let v = word_of_bytes(cells[a], cells[a + 1], cells[a + 2], cells[a + 3]);
+        out[d] = out[d] + weight * word_to_f32(v);
+        d += 1;
+    }
+}
+
+// The Rust's `sv_accum_i4`.
+fn add_int4(weight: f32, cells: &[u8], scales: &[u32], out: &mut [f32])
+    requires { ⌜ IsInt4 (length (now out)) (length (now cells)) (length (now scales)) ⌝ }
+    ensures { λ _. ⌜ now (out .exit) ≡ added (int4Term weight (now (cells .entry)) (now (scales .entry))) (now (out .entry)) ⌝ }
+{
+    let mut g = 0;
+    while g < scales.len() {
+        let a = g * 32;
+        let b = g * 16;
+        add_group(
+            weight,
+            word_to_f32(scales[g]),
+            &cells[b..b + 16],
+            &mut out[a..a + 32],
+        );
+        g += 1;
+    }
+}
+
+// A group's 32 codes under its scale: the low code of each byte, and the high one 16 places on.
+fn add_group(weight: f32, scale: f32, bytes: &[u8], out: &mut [f32])
+    requires { ⌜ (length (now out) ≡ 32) × (length (now bytes) ≡ 16) ⌝ }
+    ensures { λ _. ⌜ now (out .exit) ≡ added (λ i. mul binary32 (mul binary32 weight scale) (groupCode (now (bytes .entry)) i)) (now (out .entry)) ⌝ }
+{
+    let mut i = 0;
+    while i < 16 {
+        let low = out[i] + weight * scale * code_from(0, bytes[i]);
+        let high = out[i + 16] + weight * scale * code_from(4, bytes[i]);
+        out[i] = low;
+        out[i + 16] = high;
+        i += 1;
+    }
+}
+
+// The code less 8 that begins at bit `from` of a byte.
+pub(crate) fn code_from(from: u32, byte: u8) -> f32
+    requires { ⌜ from ≤ 4 ⌝ }
+    ensures { λ r. ⌜ r ≡ less8 (byte / 2 ^ from % 16) ⌝ }
+{
+    less_8((byte >> from) % 16)
+}
