@@ -237,7 +237,8 @@ pub fn read_row(
     )
 }
 
-fn store_reply(record: Record, cells: usize, scales: usize) -> Reply
+// The lowest refusal of a record and of the lengths of its buffers.
+pub fn store_reply(record: Record, cells: usize, scales: usize) -> Reply
     ensures { λ r. ⌜ replyNumber r ≡ lowest (roomRefusals («record» .shape) cells scales ++ lengthsRefusal «record») ⌝ }
 {
     let room = room_reply(record.shape, cells, scales);
@@ -290,7 +291,7 @@ fn most_of(shape: Shape, l: usize) -> u32
 }
 
 // The positions of a layer; 0 past the array.
-fn length_of(record: Record, layer: u32) -> u32
+pub fn length_of(record: Record, layer: u32) -> u32
     ensures { λ r. ⌜ r ≡ lengthOf «record» layer ⌝ }
 {
     if layer < 128 {

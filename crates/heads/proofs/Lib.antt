@@ -1,0 +1,5 @@
+mod BlockLaws
+pub mod Determined
+pub mod Exactly
+pub mod HeadLaws
+pub mod PlaceLaws
