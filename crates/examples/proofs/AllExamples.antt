@@ -2,7 +2,7 @@
 use mathlib.Core.Path.{_≡_, refl}
 use mathlib.Core.List.{List, [], _∷_, map}
 use Prim.Native.Nat.{ℕ}
-use lib.Ieee.{lt, eq, div, mul, ofBits, toBits, ofInt}
+use lib.Ieee.{lt, eq, add, div, mul, ofBits, toBits, ofInt}
 use Rattle.lists.specs.Chunks.{tab, joined, at, each, turns, some}
 use Rattle.numbers.specs.Word.{bf16}
 use Rattle.numbers.specs.Scale.{magnitude, larger, largestFrom, largest, scaleOf}
@@ -15,6 +15,8 @@ use Rattle.layers.specs.Layer.{put, putSide, putLayer, written}
 use Rattle.cells.specs.Calls.{appended}
 use Rattle.store.specs.Record.{goodLengths}
 use Rattle.store.specs.Calls.{openOf, appendOf}
+use Rattle.blocks.specs.Order.{summed, groupDot, int4Dot, hasScores, rowDot, rowTerm, scoresOf, sumsOf}
+use Rattle.heads.specs.Calls.{scoresAt, sumsAt, headScoresOf, headSumsOf}
 use Rattle.examples.specs.Examples.{answer, Example, P, AllHold, examples}
 
 got : Example → List ℕ
@@ -29,5 +31,5 @@ one-by-one [] h = tt
 one-by-one (P n asked said ∷ es) h = (cc, one-by-one es (cc))
 
 pub examples-hold : AllHold examples
-unfolding examples answer got wanted tab joined at each turns some bf16 magnitude larger largestFrom largest scaleOf nearestWhole held code8 code4 read4 less8 packed half unpacked lt eq div mul ofBits toBits ofInt lowest outcome ofFormat cellBytes scaleWords total limits within exact little f32Cells bf16Cells int8Cells int8Scales int4Cells int4Scales rowCells rowScales put putSide putLayer written appended goodLengths openOf appendOf
+unfolding examples answer got wanted tab joined at each turns some bf16 magnitude larger largestFrom largest scaleOf nearestWhole held code8 code4 read4 less8 packed half unpacked lt eq div mul ofBits toBits ofInt lowest outcome ofFormat cellBytes scaleWords total limits within exact little f32Cells bf16Cells int8Cells int8Scales int4Cells int4Scales rowCells rowScales put putSide putLayer written appended goodLengths openOf appendOf add summed groupDot int4Dot hasScores rowDot rowTerm scoresOf sumsOf scoresAt sumsAt headScoresOf headSumsOf
 examples-hold = one-by-one examples refl

@@ -3,15 +3,17 @@ use Prim.Native.Nat.{ℕ}
 use mathlib.Core.Path.{_≡_}
 use mathlib.Core.List.{List, [], _∷_, _++_, map}
 use lib.ListN.{replicate}
+use lib.Ieee.{nan}
 use Rattle.numbers.specs.Word.{float, word, bf16}
 use Rattle.numbers.specs.Scale.{scaleOf}
 use Rattle.numbers.specs.Code.{code8}
 use Rattle.groups.specs.Group.{packed, unpacked}
-use Rattle.replies.specs.Outcome.{lowest}
+use Rattle.replies.specs.Outcome.{Outcome, lowest}
 use Rattle.shapes.specs.declared.Shape.{Shape}
-use Rattle.shapes.specs.Shape.{cellTotal, scaleTotal, roomRefusals}
+use Rattle.shapes.specs.Shape.{headSize, cellTotal, scaleTotal, roomRefusals}
 use Rattle.rows.specs.Calls.{buffers}
-use Rattle.store.specs.Calls.{openOf, appendOf}
+use Rattle.store.specs.Calls.{Store, openOf, appendOf}
+use Rattle.heads.specs.Calls.{headScoresOf, headSumsOf}
 
 pub data Asked : Type 0 where
   -- the scale of a run, by its divisor
@@ -26,12 +28,22 @@ pub data Asked : Type 0 where
   half : ℕ → Asked
   -- keys and values appended to a store of a shape, newly opened in used buffers: the reply, all cells, all scale words
   stored : Shape → List ℕ → List ℕ → Asked
+  -- the first m positions of head 0 in such a store, scored under a query and a scale: the reply, the scores
+  scored : Shape → List ℕ → List ℕ → List ℕ → ℕ → ℕ → Asked
+  -- and summed under weights: the reply, the sums
+  weighed : Shape → List ℕ → List ℕ → List ℕ → Asked
   -- a shape, lent exactly its need: the reply
   opened : Shape → Asked
 
 -- a shape in the paper's order
 abbrev shape : ℕ → ℕ → ℕ → ℕ → ℕ → Shape
 shape f l h d c = record { format = f; layers = l; heads = h; «head_size» = d; capacity = c }
+
+-- keys and values appended to a store of a shape, newly opened in used buffers
+abbrev filled : Shape → List ℕ → List ℕ → Outcome Store
+filled s keys values =
+    let new = openOf s (buffers (replicate (cellTotal s) 0xa5) (replicate (scaleTotal s) 0xa5)) .left in
+    appendOf (new .rec) (new .lent) 0 keys values
 
 -- what comes out: floats as words
 unfoldable pub answer : Asked → List ℕ
@@ -40,10 +52,15 @@ answer (run8 run) = word (scaleOf 127 run) ∷ map (λ w. code8 w (scaleOf 127 r
 answer (group4 run) = word (scaleOf 7 run) ∷ (packed run (scaleOf 7 run) ++ unpacked (packed run (scaleOf 7 run)) (scaleOf 7 run))
 answer (quotient bits) = code8 bits (float 0x3f80_0000) ∷ []
 answer (half w) = bf16 w ∷ []
-answer (stored s keys values) =
-    let new = openOf s (buffers (replicate (cellTotal s) 0xa5) (replicate (scaleTotal s) 0xa5)) .left in
-    let done = appendOf (new .rec) (new .lent) 0 keys values in
-    done .reply ∷ (done .left .lent .cells ++ done .left .lent .scales)
+answer (stored s keys values) = let done = filled s keys values in done .reply ∷ (done .left .lent .cells ++ done .left .lent .scales)
+answer (scored s keys values query x m) =
+    let b = filled s keys values .left in
+    let done = headScoresOf (b .rec) (b .lent) 0 0 (map float query) (float x) (replicate m nan) in
+    done .reply ∷ map word (done .left)
+answer (weighed s keys values weights) =
+    let b = filled s keys values .left in
+    let done = headSumsOf (b .rec) (b .lent) 0 0 (map float weights) (replicate (headSize s) nan) in
+    done .reply ∷ map word (done .left)
 answer (opened s) = lowest (roomRefusals s (cellTotal s) (scaleTotal s)) ∷ []
 
 -- example n of the paper: what is asked, and what it says
@@ -61,6 +78,10 @@ AllHold (e ∷ es) = Holds e × AllHold es
 abbrev all : ℕ → ℕ → List ℕ
 all n w = replicate n w
 
+-- 7 at 0, -7 at 16
+abbrev group2 : List ℕ
+group2 = 0x40e0_0000 ∷ all 15 0 ++ (0xc0e0_0000 ∷ all 15 0)
+
 unfoldable pub examples : List Example
 examples =
     -- 127, 0.5, -0.5, -2.5
@@ -68,8 +89,7 @@ examples =
     -- the same through an append: INT8, one layer and head, D 4, C 2
     ∷ P 1 (stored (shape 2 1 1 4 2) (0x42fe_0000 ∷ 0x3f00_0000 ∷ 0xbf00_0000 ∷ 0xc020_0000 ∷ []) (all 4 0))
     (0 ∷ 0x7f ∷ 0x01 ∷ 0xff ∷ 0xfd ∷ all 12 0 ++ (0x3f80_0000 ∷ 0 ∷ 0x3f80_0000 ∷ 0 ∷ []))
-    -- 7 at 0, -7 at 16
-    ∷ P 2 (group4 (0x40e0_0000 ∷ all 15 0 ++ (0xc0e0_0000 ∷ all 15 0)))
+    ∷ P 2 (group4 group2)
     (0x3f80_0000 ∷ 0x1f ∷ all 15 0x88 ++ (0x40e0_0000 ∷ all 15 0 ++ (0xc0e0_0000 ∷ all 15 0)))
     -- all zero; all NaN, of two payloads and both signs
     ∷ P 3 (group4 (all 32 0)) (0x3f80_0000 ∷ all 16 0x88 ++ all 32 0)
@@ -92,6 +112,9 @@ examples =
     -- the same through an append: BF16, one layer and head, D 3, C 1
     ∷ P 8 (stored (shape 1 1 1 3 1) (0x3f80_8000 ∷ 0x3f81_8000 ∷ 0x7f7f_ffff ∷ []) (all 3 0))
     (0 ∷ 0x80 ∷ 0x3f ∷ 0x82 ∷ 0x3f ∷ 0x80 ∷ 0x7f ∷ all 6 0)
+    -- the group of P2 as key, under 2 at 0 and 3 at 16 and the scale 0.5; as value, under the weight 0.25
+    ∷ P 9 (scored (shape 3 1 1 32 1) group2 (all 32 0) (0x4000_0000 ∷ all 15 0 ++ (0x4040_0000 ∷ all 15 0)) 0x3f00_0000 1) (0 ∷ 0xc060_0000 ∷ [])
+    ∷ P 9 (weighed (shape 3 1 1 32 1) (all 32 0) group2 (0x3e80_0000 ∷ [])) (0 ∷ 0x3fe0_0000 ∷ all 15 0 ++ (0xbfe0_0000 ∷ all 15 0))
     -- F32, H 64, D 256, C 4,096
     ∷ P 10 (opened (shape 0 2 64 256 4096)) (0 ∷ [])
     ∷ P 10 (opened (shape 0 3 64 256 4096)) (1 ∷ [])

@@ -15,6 +15,7 @@ ghost use Rattle.numbers.specs.Code.{code8, code4, read8};
 ghost use Rattle.groups.specs.Group.{groupReply, packInto, unpackInto};
 ghost use Rattle.rows.specs.Calls.{buffers};
 ghost use Rattle.store.specs.Calls.{openOf, appendOf, truncateOf, advanceOf, cachedLenOf, memoryBytesOf, readOf};
+ghost use Rattle.heads.specs.Calls.{headScoresOf, headSumsOf};
 ghost use Rattle.host.specs.Words.{recordOf, shapeOf, seen, told};
 
 // The scale of an INT8 head.
@@ -226,4 +227,54 @@ pub extern "C" fn kv_read_row(
         position,
         out,
     ))
+}
+
+// Scores as many positions of a head's keys as `out` has places, under a query and a scale.
+#[no_mangle]
+pub extern "C" fn kv_scores(
+    rec: &[u32; 134],
+    cells: &[u8],
+    scales: &[u32],
+    layer: u32,
+    head: u32,
+    query: &[f32],
+    scale: f32,
+    out: &mut [f32],
+) -> u32
+    ensures { λ r.
+        ⌜
+        told r (now (out .exit))
+        ≡ headScoresOf (recordOf (now (rec .entry))) (buffers (now (cells .entry)) (now (scales .entry))) layer head (now (query .entry)) scale (now (out .entry))
+        ⌝ }
+{
+    number(heads::scores(
+        record_of(*rec),
+        cells,
+        scales,
+        layer,
+        head,
+        query,
+        scale,
+        out,
+    ))
+}
+
+// Sums as many positions of a head's values as there are weights.
+#[no_mangle]
+pub extern "C" fn kv_sums(
+    rec: &[u32; 134],
+    cells: &[u8],
+    scales: &[u32],
+    layer: u32,
+    head: u32,
+    weights: &[f32],
+    out: &mut [f32],
+) -> u32
+    ensures { λ r.
+        ⌜
+        told r (now (out .exit))
+        ≡ headSumsOf (recordOf (now (rec .entry))) (buffers (now (cells .entry)) (now (scales .entry))) layer head (now (weights .entry)) (now (out .entry))
+        ⌝ }
+{
+    number(heads::sums(record_of(*rec), cells, scales, layer, head, weights, out))
 }

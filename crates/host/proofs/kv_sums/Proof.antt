@@ -1,0 +1,27 @@
+-- The head's promise of the record that the words are, with its reply as a number.
+use mathlib.Core.Path.{refl}
+use borrow.Author.Needs.{needs}
+use Rattle.host.proofs.WordLaws.{as-told}
+use Rattle.host.proofs.kv_sums.Statement.{statement}
+use Rattle.host.proofs.kv_sums.Tie as tie
+
+record-of-requires : tie.Need-record-of-requires
+record-of-requires c κs = search needs
+
+sums-requires : tie.Need-sums-requires
+sums-requires c κs = search needs
+
+number-requires : tie.Need-number-requires
+number-requires c κs = search needs
+
+same-length : tie.Need-same-length
+same-length c = search needs
+
+returns : tie.Need-returns
+returns c =
+    as-told (c .number .ensures) refl
+    (rw (c .before .before .before .before .before .record-of .ensures) at (c .before .before .before .sums .ensures))
+
+pub kv-sums-spec : {M : Type 1} → statement M
+kv-sums-spec =
+    tie.close (tie.spec record-of-requires sums-requires number-requires same-length returns)
