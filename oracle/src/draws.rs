@@ -14,6 +14,9 @@ const MOST_NUMBERS: u64 = (1 << 20) + 256;
 /// The most places of an output.
 const MOST_PLACES: usize = 600;
 
+/// What draws a call on the store of a record.
+pub type Draw = fn(&Record, &mut Dice) -> Call;
+
 /// A call with arguments that are mostly right.
 pub fn call(record: &Record, dice: &mut Dice) -> Call {
     match dice.below(16) {
