@@ -1,6 +1,6 @@
 //! The static library's functions, and a safe wrapper on slices for each.
 use crate::record::{Shape, WORDS};
-use crate::replies::Place;
+use crate::replies::{Head, Place};
 
 /// The reply of a call that was done.
 pub const DONE: u32 = 0;
@@ -76,6 +76,33 @@ extern "C" {
         head: u32,
         position: u32,
         out: *mut u32,
+        out_length: usize,
+    ) -> u32;
+    fn kv_scores(
+        rec: *mut u32,
+        cells: *const u8,
+        cells_length: usize,
+        scales: *const u32,
+        scales_length: usize,
+        layer: u32,
+        head: u32,
+        query: *const f32,
+        query_length: usize,
+        scale: f32,
+        out: *mut f32,
+        out_length: usize,
+    ) -> u32;
+    fn kv_sums(
+        rec: *mut u32,
+        cells: *const u8,
+        cells_length: usize,
+        scales: *const u32,
+        scales_length: usize,
+        layer: u32,
+        head: u32,
+        weights: *const f32,
+        weights_length: usize,
+        out: *mut f32,
         out_length: usize,
     ) -> u32;
 }
@@ -220,6 +247,46 @@ pub fn read_row(lending: Lending, place: Place, output: &mut [u32]) -> u32 {
             place.head,
             place.position,
             output.as_mut_ptr(),
+            output.len(),
+        )
+    }
+}
+
+/// Scores the first positions of a head, as many as the output has places; the reply.
+/// Floats are held as words, so that the bits of a NaN that is not written stay.
+pub fn scores(lending: Lending, head: Head, query: &[u32], scale: f32, output: &mut [u32]) -> u32 {
+    unsafe {
+        kv_scores(
+            lending.record.as_mut_ptr(),
+            lending.cells.as_mut_ptr(),
+            lending.cells.len(),
+            lending.scales.as_mut_ptr(),
+            lending.scales.len(),
+            head.layer,
+            head.head,
+            query.as_ptr().cast(),
+            query.len(),
+            scale,
+            output.as_mut_ptr().cast(),
+            output.len(),
+        )
+    }
+}
+
+/// Sums the first positions of a head, as many as there are weights; the reply.
+pub fn sums(lending: Lending, head: Head, weights: &[u32], output: &mut [u32]) -> u32 {
+    unsafe {
+        kv_sums(
+            lending.record.as_mut_ptr(),
+            lending.cells.as_mut_ptr(),
+            lending.cells.len(),
+            lending.scales.as_mut_ptr(),
+            lending.scales.len(),
+            head.layer,
+            head.head,
+            weights.as_ptr().cast(),
+            weights.len(),
+            output.as_mut_ptr().cast(),
             output.len(),
         )
     }

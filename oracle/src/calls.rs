@@ -1,6 +1,6 @@
 //! The calls of a store, what a caller holds, and what a call answers.
 use crate::record::{Lent, Record, Shape};
-use crate::replies::Place;
+use crate::replies::{Head, Place};
 use std::fmt;
 
 /// Words of a list that a text shows.
@@ -32,9 +32,24 @@ pub enum Call {
         output: Vec<u32>,
         lent: usize,
     },
+    /// The front of `output` is lent.
+    Scores {
+        head: Head,
+        query: Vec<u32>,
+        scale: u32,
+        output: Vec<u32>,
+        lent: usize,
+    },
+    /// The front of `output` is lent.
+    Sums {
+        head: Head,
+        weights: Vec<u32>,
+        output: Vec<u32>,
+        lent: usize,
+    },
 }
 
-/// The number of a call's kind.
+/// The number of a call's kind; 8 to 11 are those of a caller's changes.
 pub fn kind(call: &Call) -> u32 {
     match call {
         Call::Open(_) => 1,
@@ -44,6 +59,8 @@ pub fn kind(call: &Call) -> u32 {
         Call::CachedLen { .. } => 5,
         Call::MemoryBytes => 6,
         Call::ReadRow { .. } => 7,
+        Call::Scores { .. } => 12,
+        Call::Sums { .. } => 13,
     }
 }
 
@@ -110,6 +127,13 @@ impl fmt::Display for Shape {
     }
 }
 
+impl fmt::Display for Head {
+    fn fmt(&self, text: &mut fmt::Formatter) -> fmt::Result {
+        let Head { layer, head } = self;
+        write!(text, "layer {layer} head {head}")
+    }
+}
+
 impl fmt::Display for Call {
     fn fmt(&self, text: &mut fmt::Formatter) -> fmt::Result {
         match self {
@@ -135,6 +159,26 @@ impl fmt::Display for Call {
                 } = place;
                 write!(text, "read layer {layer} side {side} head {head} ")?;
                 write!(text, "position {position} into {lent} places")
+            }
+            Call::Scores {
+                head,
+                query,
+                scale,
+                lent,
+                ..
+            } => {
+                let query = listed(query);
+                write!(text, "{lent} scores of {head} by query {query} ")?;
+                write!(text, "times {scale:08x}")
+            }
+            Call::Sums {
+                head,
+                weights,
+                lent,
+                ..
+            } => {
+                let weights = listed(weights);
+                write!(text, "{lent} sums of {head} by weights {weights}")
             }
         }
     }

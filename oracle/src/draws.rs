@@ -1,4 +1,6 @@
 //! Random calls on the store of a record.
+pub mod heads;
+
 use crate::calls::Call;
 use crate::dice::Dice;
 use crate::record::{Record, Shape, LENGTHS};
@@ -17,7 +19,15 @@ const MOST_PLACES: usize = 600;
 /// What draws a call on the store of a record.
 pub type Draw = fn(&Record, &mut Dice) -> Call;
 
-/// A call with arguments that are mostly right.
+/// A call on the store, or one on a head of it.
+pub fn any_call(record: &Record, dice: &mut Dice) -> Call {
+    match dice.below(6) {
+        0 => heads::call(record, dice),
+        _ => call(record, dice),
+    }
+}
+
+/// A call on the store with arguments that are mostly right.
 pub fn call(record: &Record, dice: &mut Dice) -> Call {
     match dice.below(16) {
         0..=4 => append(record, dice),

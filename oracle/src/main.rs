@@ -4,6 +4,7 @@ mod calls;
 mod dice;
 mod draws;
 mod game;
+mod heads;
 mod histories;
 mod mishaps;
 mod ours;
@@ -16,10 +17,13 @@ mod rows;
 mod rules;
 #[allow(dead_code, clippy::needless_range_loop)]
 mod rust;
+#[allow(clippy::needless_range_loop)]
+mod rust_heads;
 #[allow(dead_code, unknown_lints, clippy::needless_range_loop)]
 #[allow(clippy::upper_case_acronyms, clippy::manual_checked_ops)]
 mod rust_store;
 mod speed;
+mod summands;
 mod tally;
 mod vectors;
 mod wanted;

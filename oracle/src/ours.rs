@@ -1,6 +1,7 @@
 //! A caller of the library.
 use crate::boundary::{self, Lending};
 use crate::calls::{Answer, Call, Holdings, Told};
+use crate::rules;
 
 /// What a count holds before it is asked for.
 const DIRT: u64 = 0xA5A5_A5A5_A5A5_A5A5;
@@ -36,6 +37,29 @@ impl Ours {
                 let told = Told::Output(output);
                 Answer { reply, told }
             }
+            Call::Scores {
+                head,
+                query,
+                scale,
+                output,
+                lent,
+            } => {
+                let mut output = output.clone();
+                let (scale, places) = (f32::from_bits(*scale), &mut output[..*lent]);
+                let reply = boundary::scores(self.lending(), *head, query, scale, places);
+                computed(reply, output, *lent)
+            }
+            Call::Sums {
+                head,
+                weights,
+                output,
+                lent,
+            } => {
+                let mut output = output.clone();
+                let places = &mut output[..*lent];
+                let reply = boundary::sums(self.lending(), *head, weights, places);
+                computed(reply, output, *lent)
+            }
         }
     }
 
@@ -58,6 +82,17 @@ impl Ours {
 /// A reply alone.
 fn plain(reply: u32) -> Answer {
     let told = Told::Nothing;
+    Answer { reply, told }
+}
+
+/// The reply and the output of a call that computes its lent front, where a NaN may be any one.
+fn computed(reply: u32, mut output: Vec<u32>, lent: usize) -> Answer {
+    if reply == boundary::DONE {
+        for word in &mut output[..lent] {
+            *word = rules::word_of(f32::from_bits(*word));
+        }
+    }
+    let told = Told::Output(output);
     Answer { reply, told }
 }
 

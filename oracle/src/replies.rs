@@ -1,5 +1,5 @@
 //! The paper's table of replies: the refusals that each call can give, and when each applies.
-use crate::record::{Lent, Record, Shape, INT4};
+use crate::record::{Lent, Record, Shape, BF16, INT4, INT8};
 
 /// The largest cell total.
 pub const MOST_CELLS: u128 = 1_073_741_824;
@@ -84,6 +84,38 @@ pub fn read_row(record: &Record, lent: Lent, place: Place, output: usize) -> u32
     ])
 }
 
+/// One head of a layer.
+#[derive(Clone, Copy, Debug, PartialEq)]
+pub struct Head {
+    pub layer: u32,
+    pub head: u32,
+}
+
+/// The reply to a query of so many numbers for so many scores.
+pub fn scores(record: &Record, lent: Lent, head: Head, query: usize, scores: usize) -> u32 {
+    of_head(record, lent, head, query, scores)
+}
+
+/// The reply to so many weights for so many sums.
+pub fn sums(record: &Record, lent: Lent, head: Head, weights: usize, sums: usize) -> u32 {
+    of_head(record, lent, head, sums, weights)
+}
+
+/// The reply to a call that lends so many numbers for one row and so many for the first positions.
+fn of_head(record: &Record, lent: Lent, head: Head, row: usize, positions: usize) -> u32 {
+    let shape = record.shape();
+    lowest(&[
+        (1, is_outside(&shape)),
+        (2, is_not_exact(&shape, lent)),
+        (3, has_wrong_lengths(record)),
+        (4, head.layer >= shape.layers),
+        (5, head.head >= shape.heads),
+        (6, shape.format == BF16 || shape.format == INT8),
+        (7, row as u64 != u64::from(shape.head_size)),
+        (8, positions as u64 > u64::from(record.length(head.layer))),
+    ])
+}
+
 /// The lowest number that applies, or 0.
 fn lowest(refusals: &[(u32, bool)]) -> u32 {
     let applying = refusals.iter().filter(|(_, applies)| *applies);
@@ -131,24 +163,26 @@ fn exceeds_capacity(record: &Record, layer: u32, keys: usize) -> bool {
 /// The number of every call's kind with each reply that the call can give.
 #[cfg(test)]
 pub fn each() -> std::collections::BTreeSet<(u32, u32)> {
-    let replies: [&[u32]; 7] = [
-        &[0, 1, 2],
-        &[0, 1, 2, 3, 4, 7, 9],
-        &[0, 1, 2, 3, 4],
-        &[0, 1, 3, 10],
-        &[0, 1, 3, 4],
-        &[0, 1, 3],
-        &[0, 1, 2, 3, 4, 5, 7, 8],
+    let replies: [(u32, &[u32]); 9] = [
+        (1, &[0, 1, 2]),
+        (2, &[0, 1, 2, 3, 4, 7, 9]),
+        (3, &[0, 1, 2, 3, 4]),
+        (4, &[0, 1, 3, 10]),
+        (5, &[0, 1, 3, 4]),
+        (6, &[0, 1, 3]),
+        (7, &[0, 1, 2, 3, 4, 5, 7, 8]),
+        (12, &[0, 1, 2, 3, 4, 5, 6, 7, 8]),
+        (13, &[0, 1, 2, 3, 4, 5, 6, 7, 8]),
     ];
     let of_kind =
         |(kind, replies): (u32, &'static [u32])| replies.iter().map(move |reply| (kind, *reply));
-    (1..).zip(replies).flat_map(of_kind).collect()
+    replies.into_iter().flat_map(of_kind).collect()
 }
 
 #[cfg(test)]
 mod tests {
     use super::*;
-    use crate::record::{F32, FIRST_LENGTH, INT8, SEQ_LEN, WORDS};
+    use crate::record::{F32, FIRST_LENGTH, SEQ_LEN, WORDS};
 
     const SMALL: Shape = Shape {
         format: INT8,
@@ -265,6 +299,74 @@ mod tests {
         assert_eq!(read_row(&full, lent, row(0, 1, 0, 2), 3), 7);
         assert_eq!(read_row(&full, lent, row(0, 1, 0, 2), 4), 8);
         assert_eq!(read_row(&full, lent, row(0, 1, 0, 1), 4), 0);
+    }
+
+    /// The reply to scores, which that to sums has to be.
+    fn head_reply(record: &Record, lent: Lent, head: Head, row: usize, positions: usize) -> u32 {
+        let reply = scores(record, lent, head, row, positions);
+        assert_eq!(sums(record, lent, head, positions, row), reply);
+        reply
+    }
+
+    #[test]
+    fn scores_and_sums_are_refused_with_the_lowest_number_that_applies() {
+        let lent = exact(&SMALL);
+        let short = Lent {
+            scales: lent.scales - 1,
+            ..lent
+        };
+        let at = |layer, head| Head { layer, head };
+        let outside = with(&[(0, 4), (FIRST_LENGTH, 3)]);
+        let damaged = with(&[(FIRST_LENGTH, 3)]);
+        assert_eq!(head_reply(&outside, short, at(2, 1), 3, 4), 1);
+        assert_eq!(head_reply(&damaged, short, at(2, 1), 3, 4), 2);
+        assert_eq!(head_reply(&damaged, lent, at(2, 1), 3, 4), 3);
+        assert_eq!(head_reply(&with(&[]), lent, at(2, 1), 3, 4), 4);
+        assert_eq!(head_reply(&with(&[]), lent, at(1, 1), 3, 4), 5);
+        assert_eq!(head_reply(&with(&[]), lent, at(1, 0), 3, 4), 6);
+    }
+
+    #[test]
+    fn scores_and_sums_want_a_whole_row_and_no_more_positions_than_there_are() {
+        let shape = Shape {
+            format: F32,
+            ..SMALL
+        };
+        let mut record = Record::opened(&shape);
+        record.set_length(1, 2);
+        let reply = |head, row, positions| {
+            let head = Head {
+                layer: head,
+                head: 0,
+            };
+            head_reply(&record, exact(&shape), head, row, positions)
+        };
+        for (row, positions, number) in [
+            (3, 3, 7),
+            (3, 0, 7),
+            (5, 0, 7),
+            (0, 0, 7),
+            (4, 3, 8),
+            (4, 2, 0),
+            (4, 0, 0),
+        ] {
+            assert_eq!(reply(1, row, positions), number);
+        }
+        assert_eq!([reply(0, 4, 1), reply(0, 4, 0)], [8, 0]);
+    }
+
+    #[test]
+    fn scores_and_sums_are_refused_of_bf16_and_int8_alone() {
+        for (format, number) in [(F32, 0), (BF16, 6), (INT8, 6), (INT4, 0)] {
+            let shape = Shape {
+                format,
+                head_size: 32,
+                ..SMALL
+            };
+            let head = Head { layer: 1, head: 0 };
+            let record = Record::opened(&shape);
+            assert_eq!(head_reply(&record, exact(&shape), head, 32, 0), number);
+        }
     }
 
     #[test]

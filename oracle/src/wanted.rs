@@ -1,10 +1,10 @@
 //! What every call has to answer and to leave: replies from the paper's table, the rest from the lifted store.
 use crate::calls::{Answer, Call, Change, Holdings, Told};
 use crate::record::{Lent, Record, Shape, SEQ_LEN};
-use crate::replies::{self, Place};
+use crate::replies::{self, Head, Place};
 use crate::rows::{empty_store, row_of, store_in, Picture, Room};
 use crate::rust_store::KvStore;
-use crate::{rules, words};
+use crate::{heads, rules, words};
 
 /// The caller's holdings as they have to be, and the lifted store that lies in them.
 pub struct Wanted {
@@ -50,6 +50,19 @@ impl Wanted {
                 output,
                 lent,
             } => self.read_row(*place, output, *lent),
+            Call::Scores {
+                head,
+                query,
+                scale,
+                output,
+                lent,
+            } => self.scores(*head, query, *scale, output, *lent),
+            Call::Sums {
+                head,
+                weights,
+                output,
+                lent,
+            } => self.sums(*head, weights, output, *lent),
         }
     }
 
@@ -152,13 +165,39 @@ impl Wanted {
         }
     }
 
+    fn scores(
+        &mut self,
+        head: Head,
+        query: &[u32],
+        scale: u32,
+        output: &[u32],
+        lent: usize,
+    ) -> Answer {
+        let record = self.holdings.record;
+        let reply = replies::scores(&record, self.holdings.lent, head, query.len(), lent);
+        computed(reply, output, lent, |made| {
+            let data = &self.store().layer_data[head.layer as usize];
+            let (query, scale) = (words::numbers(query), f32::from_bits(scale));
+            heads::scores(data, head.head as usize, &query, scale, made);
+        })
+    }
+
+    fn sums(&mut self, head: Head, weights: &[u32], output: &[u32], lent: usize) -> Answer {
+        let record = self.holdings.record;
+        let reply = replies::sums(&record, self.holdings.lent, head, weights.len(), lent);
+        computed(reply, output, lent, |made| {
+            let data = &self.store().layer_data[head.layer as usize];
+            heads::sums(data, head.head as usize, &mut words::numbers(weights), made);
+        })
+    }
+
     /// Whether the record's store lies in what is lent; a record changed by hand need not have one.
     fn is_whole(&self) -> bool {
         Lent::exact(&self.holdings.record.shape()) == Some(self.holdings.lent)
     }
 
     /// The lifted store of the holdings, made anew where they were changed by hand.
-    fn store(&mut self) -> &KvStore {
+    pub fn store(&mut self) -> &KvStore {
         let holdings = &self.holdings;
         if self.known != holdings.record {
             self.known = holdings.record;
@@ -206,9 +245,26 @@ fn counted(reply: u32, count: u64) -> Answer {
     }
 }
 
+/// A reply with an output, of whose front numbers are made where the call is done.
+fn computed(reply: u32, output: &[u32], lent: usize, make: impl FnOnce(&mut [f32])) -> Answer {
+    let mut output = output.to_vec();
+    if reply == 0 {
+        let mut made = words::numbers(&output[..lent]);
+        make(&mut made);
+        for (word, number) in output.iter_mut().zip(made) {
+            *word = rules::word_of(number);
+        }
+    }
+    Answer {
+        reply,
+        told: Told::Output(output),
+    }
+}
+
 #[cfg(test)]
 mod tests {
     use super::*;
+    use crate::record::INT4;
 
     /// A store of a format after some calls, over dirty buffers.
     fn played(format: u32) -> Wanted {
@@ -250,6 +306,67 @@ mod tests {
             picture.draw(&room, store, layer, 0..store.cached_len(layer));
         }
         (cells, scales)
+    }
+
+    /// An INT4 store of one head, whose one position has the group of P2 as key and as value.
+    fn with_a_group() -> Wanted {
+        let shape = Shape {
+            format: INT4,
+            layers: 1,
+            heads: 1,
+            head_size: 32,
+            capacity: 2,
+        };
+        let lent = Lent::exact(&shape).unwrap();
+        let mut wanted = Wanted::new(Holdings {
+            record: Record::NONE,
+            cells: vec![0xA5; lent.cells],
+            scales: vec![0xA5; lent.scales],
+            lent,
+        });
+        let group = row(&[(0, 7.0), (16, -7.0)]);
+        wanted.open(&shape);
+        wanted.append(0, &group, &group);
+        wanted
+    }
+
+    /// The words of 32 numbers, zeros but for those given with their places.
+    fn row(numbers: &[(usize, f32)]) -> Vec<u32> {
+        let mut row = vec![0; 32];
+        for &(place, number) in numbers {
+            row[place] = number.to_bits();
+        }
+        row
+    }
+
+    const HEAD: Head = Head { layer: 0, head: 0 };
+
+    #[test]
+    fn scores_and_sums_of_an_appended_group_are_those_of_p9() {
+        let mut wanted = with_a_group();
+        let (query, half) = (row(&[(0, 2.0), (16, 3.0)]), 0.5f32.to_bits());
+        let scores = wanted.scores(HEAD, &query, half, &[9, 9], 1);
+        assert_eq!(scores.reply, 0);
+        assert_eq!(scores.told, Told::Output(vec![(-3.5f32).to_bits(), 9]));
+        let sums = wanted.sums(HEAD, &[0.25f32.to_bits()], &[9; 33], 32);
+        let made = [row(&[(0, 1.75), (16, -1.75)]), vec![9]].concat();
+        assert_eq!(sums.reply, 0);
+        assert_eq!(sums.told, Told::Output(made));
+    }
+
+    #[test]
+    fn refused_scores_and_sums_leave_their_output() {
+        let mut wanted = with_a_group();
+        let query = row(&[]);
+        for (answer, reply, output) in [
+            (wanted.scores(HEAD, &query[1..], 0, &[9; 4], 1), 7, 4),
+            (wanted.scores(HEAD, &query, 0, &[9; 4], 2), 8, 4),
+            (wanted.sums(HEAD, &[0], &[9; 34], 31), 7, 34),
+            (wanted.sums(HEAD, &[0, 0], &[9; 34], 32), 8, 34),
+        ] {
+            assert_eq!(answer.reply, reply);
+            assert_eq!(answer.told, Told::Output(vec![9; output]));
+        }
     }
 
     #[test]

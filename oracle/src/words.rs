@@ -119,7 +119,7 @@ pub fn run(length: usize, dice: &mut Dice) -> Vec<u32> {
 }
 
 /// A run whose numbers are drawn one by one.
-fn filled(length: usize, draw: fn(&mut Dice) -> u32, dice: &mut Dice) -> Vec<u32> {
+pub fn filled(length: usize, draw: fn(&mut Dice) -> u32, dice: &mut Dice) -> Vec<u32> {
     (0..length).map(|_| draw(dice)).collect()
 }
 

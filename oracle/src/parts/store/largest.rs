@@ -2,8 +2,8 @@
 use crate::calls::{Call, Holdings};
 use crate::dice::Dice;
 use crate::record::{Lent, Record, Shape, F32};
-use crate::replies::Place;
-use crate::words;
+use crate::replies::{Head, Place};
+use crate::summands;
 
 /// The shape that P10 says is taken.
 const SHAPE: Shape = Shape {
@@ -27,15 +27,15 @@ pub fn holdings() -> Holdings {
     }
 }
 
-/// Calls that write, read and clear rows of the first block and of the last one.
+/// Calls that write, read, score, sum and clear rows of the first head and of the last one.
 pub fn calls() -> Vec<Call> {
     let mut dice = Dice::of("largest", 0);
     let mut calls = vec![Call::Open(SHAPE)];
     for layer in [0, 1] {
         calls.push(Call::Append {
             layer,
-            keys: words::run(SHAPE.position_numbers() as usize, &mut dice),
-            values: words::run(SHAPE.position_numbers() as usize, &mut dice),
+            keys: summands::plain_run(SHAPE.position_numbers() as usize, &mut dice),
+            values: summands::plain_run(SHAPE.position_numbers() as usize, &mut dice),
         });
         calls.push(Call::ReadRow {
             place: Place {
@@ -47,6 +47,7 @@ pub fn calls() -> Vec<Call> {
             output: vec![0; SHAPE.head_size as usize],
             lent: SHAPE.head_size as usize,
         });
+        calls.extend(of_head(layer, 63 * layer, &mut dice));
     }
     calls.extend([
         Call::MemoryBytes,
@@ -54,4 +55,25 @@ pub fn calls() -> Vec<Call> {
         Call::Open(Shape { layers: 3, ..SHAPE }),
     ]);
     calls
+}
+
+/// The score and the sums of the one position of a head.
+fn of_head(layer: u32, head: u32, dice: &mut Dice) -> [Call; 2] {
+    let head = Head { layer, head };
+    let row = SHAPE.head_size as usize;
+    [
+        Call::Scores {
+            head,
+            query: summands::plain_run(row, dice),
+            scale: 0.0625f32.to_bits(),
+            output: vec![0; 1],
+            lent: 1,
+        },
+        Call::Sums {
+            head,
+            weights: summands::plain_run(1, dice),
+            output: vec![0; row],
+            lent: row,
+        },
+    ]
 }

@@ -2,7 +2,7 @@
 use super::shapes::{huge, spoiled, Size};
 use crate::calls::{Call, Holdings, Step};
 use crate::dice::Dice;
-use crate::draws::{call, filled_layer, read_into};
+use crate::draws::{any_call, filled_layer, read_into};
 use crate::mishaps::{damaged, fits, lend, with_wrong_room, word_of, wrong_room};
 use crate::record::{Lent, Record, Shape, SEQ_LEN, WORDS};
 use crate::replies::{self, Place};
@@ -56,11 +56,11 @@ impl Script {
             0 => self.open(holdings, dice),
             1 => open_refused(holdings, dice),
             2 => open_with_wrong_room(holdings, dice),
-            3..=5 => with_wrong_room(holdings, call, dice),
-            6..=12 => damaged(&holdings.record, call, dice),
+            3..=5 => with_wrong_room(holdings, any_call, dice),
+            6..=12 => damaged(&holdings.record, any_call, dice),
             13 => without_buffers(dice),
             14 | 15 => rows_of_a_layer(&holdings.record, dice),
-            _ => vec![Step::Call(call(&holdings.record, dice))],
+            _ => vec![Step::Call(any_call(&holdings.record, dice))],
         }
     }
 
