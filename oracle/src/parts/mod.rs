@@ -2,6 +2,7 @@
 mod bf16;
 mod codes;
 mod groups;
+mod heads;
 mod reading;
 mod scales;
 mod store;
@@ -17,6 +18,7 @@ pub fn all(reach: Reach) -> Vec<Part> {
         reading::parts(reach),
         bf16::parts(reach),
         store::parts(reach),
+        heads::parts(reach),
     ]
     .into_iter()
     .flatten()
