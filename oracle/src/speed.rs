@@ -1,10 +1,13 @@
 //! A measurement of the store's calls, against the lifted Rust and against clearing memory.
+mod heads;
+
 use crate::boundary::{self, Lending};
 use crate::dice::Dice;
 use crate::record::{Lent, Record, Shape, BF16, F32, INT4, INT8, WORDS};
 use crate::rows::{empty_store, Picture, Room};
 use crate::rust_store::KvStore;
 use crate::words;
+use heads::Heads;
 use std::hint::black_box;
 use std::process::ExitCode;
 use std::time::Instant;
@@ -15,15 +18,16 @@ const RUNS: usize = 21;
 const HEADS: usize = 8;
 const HEAD_SIZE: usize = 128;
 const POSITIONS: usize = 1024;
-/// Numbers of both sides together.
-const NUMBERS: usize = 2 * POSITIONS * HEADS * HEAD_SIZE;
+/// Numbers of one side, and of both sides together.
+const SIDE: usize = POSITIONS * HEADS * HEAD_SIZE;
+const NUMBERS: usize = 2 * SIDE;
 /// What memory holds before it is cleared.
 const DIRT: u8 = 0xA5;
 
 /// Prints a line for each format and call; fails where the results differ.
 pub fn measure() -> ExitCode {
     println!("{POSITIONS} positions of one layer, H {HEADS}, D {HEAD_SIZE}: ns per number, {RUNS} runs of each in turn.");
-    println!("Append against the lifted Rust, open and truncate against clearing as many bytes.");
+    println!("Append, scores and sums against the lifted Rust, open and truncate against clearing as many bytes.");
     println!("                  ours            other           ratio");
     println!("                  min    median   min    median   min    median");
     for (format, name) in [(F32, "F32"), (BF16, "BF16"), (INT8, "INT8"), (INT4, "INT4")] {
@@ -32,9 +36,19 @@ pub fn measure() -> ExitCode {
             println!("{name}: the results differ");
             return ExitCode::FAILURE;
         }
-        print_line("append", name, bench.appends());
-        print_line("open", name, bench.clears(Bench::open));
-        print_line("truncate", name, bench.clears(Bench::truncate));
+        print_line("append", name, NUMBERS, bench.appends());
+        print_line("open", name, NUMBERS, bench.clears(Bench::open));
+        print_line("truncate", name, NUMBERS, bench.clears(Bench::truncate));
+        if format == BF16 || format == INT8 {
+            continue;
+        }
+        let mut heads = Heads::new(bench);
+        if !heads.agree() {
+            println!("{name}: the heads' results differ");
+            return ExitCode::FAILURE;
+        }
+        print_line("scores", name, SIDE, heads.scores());
+        print_line("sums", name, SIDE, heads.sums());
     }
     ExitCode::SUCCESS
 }
@@ -46,9 +60,10 @@ struct Times {
     other: Vec<f64>,
 }
 
-/// Prints the least and the median time of each side for one number, and their ratios.
-fn print_line(call: &str, format: &str, times: Times) {
-    let (ours, other) = (least_and_median(times.ours), least_and_median(times.other));
+/// Prints the least and the median time of each side for one of so many numbers, and their ratios.
+fn print_line(call: &str, format: &str, numbers: usize, times: Times) {
+    let ours = least_and_median(times.ours, numbers);
+    let other = least_and_median(times.other, numbers);
     let pair = |(least, median): (f64, f64)| format!("{least:<6.3} {median:<6.3}");
     let ratios = pair((ours.0 / other.0, ours.1 / other.1));
     let name = format!("{call} {format}");
@@ -60,10 +75,10 @@ fn print_line(call: &str, format: &str, times: Times) {
     );
 }
 
-/// The least and the median time for one number.
-fn least_and_median(mut times: Vec<f64>) -> (f64, f64) {
+/// The least and the median time for one of so many numbers.
+fn least_and_median(mut times: Vec<f64>, numbers: usize) -> (f64, f64) {
     times.sort_by(f64::total_cmp);
-    let numbers = NUMBERS as f64;
+    let numbers = numbers as f64;
     (times[0] / numbers, times[times.len() / 2] / numbers)
 }
 
@@ -100,10 +115,7 @@ impl Bench {
         };
         let lent = Lent::exact(&shape).expect("the store is small");
         let mut dice = Dice::of("speed", u64::from(format));
-        let mut side = || -> Vec<u32> {
-            let numbers = 0..NUMBERS / 2;
-            numbers.map(|_| words::moderate(&mut dice)).collect()
-        };
+        let mut side = || words::filled(SIDE, words::moderate, &mut dice);
         let (keys, values) = (side(), side());
         let mut bench = Bench {
             shape,
