@@ -3,21 +3,25 @@
 use mathlib.Core.Path.{_≡_, _∙_}
 use mathlib.Core.Bool.{true}
 use mathlib.Core.List.{List, _++_}
-use Prim.Native.Nat.{ℕ, _+_, _-_, _*_, _/_, _≤_, _<_}
-use native.Mathlib.Nat.{add-mul, mul-div-right}
+use Prim.Native.Nat.{ℕ, _+_, _-_, _*_, _/_, _%_, _≤_, _<_}
+use native.Mathlib.Nat.{mul-div-right, div-add-mod'}
 use native.Mathlib.Omega.{arith}
 use lib.ListN.{length, take, drop}
 use Rattle.lists.specs.Chunks.{part}
 use Rattle.lists.proofs.At.{at-lent}
 use Rattle.shapes.specs.declared.Shape.{Shape}
-use Rattle.shapes.specs.Shape.{headSize, bytesOf, wordsOf, total, limits}
-use Rattle.rows.specs.Row.{rowNumbers}
+use Rattle.shapes.specs.Shape.{bytesOf, wordsOf, total, limits}
 use Rattle.rows.specs.Calls.{buffers}
 use Rattle.layers.specs.Layer.{layerSize, putLayer, written, place}
 use Rattle.layers.specs.Fits.{Fits}
 use Rattle.layers.proofs.SizeLaws.{total-layers, layer-in}
-use Rattle.cells.specs.Calls.{rowAt}
-use Rattle.cells.proofs.SizeLaws.{rowOf}
+use Rattle.layers.specs.Calls.{placeOf}
+use Rattle.layers.proofs.SpanLaws.{PlaceIn, placed, row-in}
+use Rattle.cells.specs.Fits.{InRoom, RowIn}
+
+-- numbers of whole positions
+pub whole-positions : (w numbers : ℕ) → numbers % w ≡ 0 → numbers ≡ numbers / w * w
+whole-positions w numbers h = omega (arith, div-add-mod' numbers w)
 
 -- layer l of a buffer, lent as one of its equal parts
 pub record Within (b : ℕ) (s : Shape) (l : ℕ) (buf : List ℕ) : Type 0 where
@@ -43,23 +47,28 @@ pub lent-fits : {s : Shape} {l p n : ℕ} {cells scales : List ℕ} {x y : ℕ} 
     → limits s ≡ true → p + n ≤ s .capacity → x ≡ length cells / s .layers → y ≡ length scales / s .layers → Fits layerSize s p n x y
 lent-fits c w h span d e = record { in-limits = h; span = span; cell-size = d ∙ layer-size c; scale-size = e ∙ layer-size w }
 
--- one row of a buffer, lent as `&buf[row * r..e]` where r is b
-row-lent : (b : ℕ) (s : Shape) (l side h p : ℕ) (buf : List ℕ) {r e : ℕ} → r ≡ b → rowOf s l side h p * r + r ≡ e
-    → part (rowOf s l side h p * r) (e - rowOf s l side h p * r) buf ≡ part (place b s l side h p) b buf
-row-lent b s l side h p buf {r} {e} q w =
-    let d : e - rowOf s l side h p * r ≡ r = omega arith in
-    rw (d, q, add-mul (((2 * l + side) * s .heads + h) * s .capacity) p b)
+-- a row of a layer that is in the room, in a buffer of b elements a row, b being r
+module _ {s : Shape} {l side h p out x y : ℕ} (k : InRoom s l x y) (q : RowIn s side h p out) (b : ℕ) (small : b ≤ 1024) where
+  row-place : PlaceIn s l side h p b
+  row-place =
+      record {
+        in-limits = k .in-limits;
+        layer-in = k .layer;
+        side-in = q .side-in;
+        head-in = q .head-in;
+        span = omega (arith, q .position-in);
+        small = small;
+      }
 
--- what one row of both buffers reads as
-pub row-read : (s : Shape) (l side h p : ℕ) (cells scales : List ℕ) {r v n e f : ℕ} {y : List ℕ}
-    → r ≡ bytesOf s → v ≡ wordsOf s → n ≡ headSize s → rowOf s l side h p * r + r ≡ e → rowOf s l side h p * v + v ≡ f
-    → y ≡ rowNumbers (s .format) n
-    (part (rowOf s l side h p * r) (e - rowOf s l side h p * r) cells)
-    (part (rowOf s l side h p * v) (f - rowOf s l side h p * v) scales)
-    → y ≡ rowAt s l side h p (buffers cells scales)
-unfolding rowAt
-row-read s l side h p cells scales c w d q x y =
-    y ∙ rw (row-lent (bytesOf s) s l side h p cells c q, row-lent (wordsOf s) s l side h p scales w x, d)
+  module _ {r a : ℕ} (e : r ≡ b) (w : a ≡ placeOf r s l side h p) where
+    starts : a ≡ place b s l side h p
+    starts = w ∙ rw e (placed row-place)
+
+    pub row-within : {size : ℕ} → size ≡ total b s → a + r ≤ size
+    row-within f = rw (starts, e, f) (row-in row-place (q .position-in))
+
+    pub row-lent : (buf : List ℕ) → part a (a + r - a) buf ≡ part (place b s l side h p) b buf
+    row-lent buf = let d : a + r - a ≡ r = omega arith in rw (d, starts, e)
 
 -- buffers with the same cells and the same scale words
 pub buffers-alike : {c c′ w w′ : List ℕ} → c ≡ c′ → w ≡ w′ → buffers c w ≡ buffers c′ w′

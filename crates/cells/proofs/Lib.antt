@@ -1,3 +1,2 @@
 pub mod LentLaws
 pub mod ReplyLaws
-pub mod SizeLaws

@@ -1,5 +1,6 @@
 // Cells: rows of numbers in both buffers, appended, removed and read. The caller says how many positions a layer has.
 use layers::clear_layer;
+use layers::place_of;
 use layers::put_layer;
 use layers::zero_cells;
 use layers::zero_words;
@@ -288,10 +289,7 @@ fn get_at(
 {
     let c = cell_bytes(shape.format, shape.head_size);
     let w = scale_words(shape.format, shape.head_size);
-    let row = ((2 * layer as usize + side as usize) * shape.heads as usize + head as usize)
-        * shape.capacity as usize
-        + position as usize;
-    let a = row * c;
-    let b = row * w;
+    let a = place_of(shape, layer, side, head, position as usize, c);
+    let b = place_of(shape, layer, side, head, position as usize, w);
     get_row(shape.format, &cells[a..a + c], &scales[b..b + w], out);
 }

@@ -3,6 +3,7 @@
 use mathlib.Core.Path.{_≡_, refl, ap, _∙_}
 use mathlib.Core.List.{List}
 use Prim.Native.Nat.{ℕ, _-_, _*_, _≤_, _<_}
+use native.Mathlib.Nat.{zero-mul}
 use native.Mathlib.Omega.{arith}
 use lib.ListN.{length}
 use lib.Ieee.{Float}
@@ -12,19 +13,29 @@ use Rattle.replies.specs.Outcome.{Outcome, lowest, outcome}
 use Rattle.replies.proofs.Refusals.{outcome-done}
 use Rattle.shapes.specs.declared.Shape.{Shape}
 use Rattle.shapes.specs.Shape.{headSize, bytesOf, wordsOf}
-use Rattle.shapes.proofs.ShapeLaws.{limits-facts, cell-bytes-most, scale-words-most}
+use Rattle.shapes.proofs.ShapeLaws.{limits-facts}
 use Rattle.layers.specs.Layer.{place}
+use Rattle.layers.specs.Calls.{placeOf}
+use Rattle.layers.proofs.SizeLaws.{cells-most, words-most}
+use Rattle.layers.proofs.SpanLaws.{PlaceIn, placed, place-in, place-small, block-length, block-row}
 use Rattle.rows.specs.Calls.{Buffers, buffers}
 use Rattle.cells.specs.Calls.{cellsAt, scalesAt}
 use Rattle.blocks.specs.Block.{cellsOf, scalesOf, blockScores, blockSums, isBlock, blockRefusals, blockScoresOf, blockSumsOf}
 use Rattle.blocks.proofs.OrderLaws.{scores-same, sums-same}
 use Rattle.heads.specs.Calls.{scoresAt, termAt, sumsAt}
-use Rattle.heads.specs.Fits.{InHead, PlaceIn}
-use Rattle.heads.proofs.PlaceLaws.{place-in, place-small, block-length, block-row}
+use Rattle.heads.specs.Fits.{InHead}
+
+-- where a block of m rows begins and ends in each buffer
+pub record Lent (s : Shape) (l side h m a b e f : ℕ) : Type 0 where
+  pub side-in : side < 2
+  pub cells-from : a ≡ place (bytesOf s) s l side h 0
+  pub cells-to : b ≡ place (bytesOf s) s l side h m
+  pub scales-from : e ≡ place (wordsOf s) s l side h 0
+  pub scales-to : f ≡ place (wordsOf s) s l side h m
 
 module _ {s : Shape} {l h given m cells scales : ℕ} (k : InHead s l h given m cells scales) {side : ℕ} (v : side < 2) where
-  place-for : {p b : ℕ} → p ≤ m → b ≤ 1024 → PlaceIn s l side h p b
-  place-for u w =
+  place-for : (b : ℕ) {p : ℕ} → b ≤ 1024 → p ≤ m → PlaceIn s l side h p b
+  place-for b w u =
       record {
         in-limits = k .in-limits;
         layer-in = k .layer-in;
@@ -34,41 +45,45 @@ module _ {s : Shape} {l h given m cells scales : ℕ} (k : InHead s l h given m 
         small = w;
       }
 
-  -- each place of the cells and of the scale words
-  pub cell-place : {p r : ℕ} → p ≤ m → r ≡ bytesOf s → PlaceIn s l side h p r
-  cell-place u e = place-for u (rw e (cell-bytes-most s (limits-facts s (k .in-limits))))
+  -- each place up to m of the cells and of the scale words
+  pub cell-place : {p : ℕ} → p ≤ m → PlaceIn s l side h p (bytesOf s)
+  cell-place = place-for (bytesOf s) (cells-most s (k .in-limits) refl)
 
-  pub scale-place : {p r : ℕ} → p ≤ m → r ≡ wordsOf s → PlaceIn s l side h p r
-  scale-place u e = place-for u (rw e (scale-words-most s (limits-facts s (k .in-limits))))
+  pub scale-place : {p : ℕ} → p ≤ m → PlaceIn s l side h p (wordsOf s)
+  scale-place = place-for (wordsOf s) (words-most s (k .in-limits) refl)
 
-  -- the block's end in both buffers, and a place of the scale words that is no large number
-  pub cells-end : {r b : ℕ} → r ≡ bytesOf s → b ≡ place r s l side h m → b ≤ cells
-  cells-end e q = rw (q, e, k .cell-size) (place-in (cell-place (omega arith) refl))
+  -- as the code finds them
+  cells-at : {p r a : ℕ} → p ≤ m → r ≡ bytesOf s → a ≡ placeOf r s l side h p → a ≡ place (bytesOf s) s l side h p
+  cells-at u e q = q ∙ rw e (placed (cell-place u))
 
-  pub scales-end : {r f : ℕ} → r ≡ wordsOf s → f ≡ place r s l side h m → f ≤ scales
-  scales-end e q = rw (q, e, k .scale-size) (place-in (scale-place (omega arith) refl))
+  scales-at : {p r a : ℕ} → p ≤ m → r ≡ wordsOf s → a ≡ placeOf r s l side h p → a ≡ place (wordsOf s) s l side h p
+  scales-at u e q = q ∙ rw e (placed (scale-place u))
 
-  pub scales-small : {r e : ℕ} → r ≡ wordsOf s → e ≡ place r s l side h 0 → e ≤ 68719476736
-  scales-small q w = let z : 0 ≤ m = omega arith in rw w (place-small (scale-place z q) .2)
+  -- where the block begins and ends in each buffer
+  module _ {a b e f r w : ℕ} (p : r ≡ bytesOf s) (q : w ≡ wordsOf s) (x : a ≡ placeOf r s l side h 0) (y : b ≡ placeOf r s l side h m)
+      (z : e ≡ placeOf w s l side h 0) (u : f ≡ placeOf w s l side h m) where
+    pub lent-at : Lent s l side h m a b e f
+    lent-at =
+        record {
+          side-in = v;
+          cells-from = cells-at (omega arith) p x;
+          cells-to = cells-at (omega arith) p y;
+          scales-from = scales-at (omega arith) q z;
+          scales-to = scales-at (omega arith) q u;
+        }
 
--- where the block begins and ends in each buffer
-pub record Lent (s : Shape) (l side h m : ℕ) (a b e f : ℕ) : Type 0 where
-  pub side-in : side < 2
-  pub cells-from : a ≡ place (bytesOf s) s l side h 0
-  pub cells-to : b ≡ place (bytesOf s) s l side h m
-  pub scales-from : e ≡ place (wordsOf s) s l side h 0
-  pub scales-to : f ≡ place (wordsOf s) s l side h m
-
-pub lent-at : {s : Shape} {l side h m a b e f r w : ℕ} → side < 2 → r ≡ bytesOf s → w ≡ wordsOf s
-    → a ≡ place r s l side h 0 → b ≡ place r s l side h m → e ≡ place w s l side h 0 → f ≡ place w s l side h m → Lent s l side h m a b e f
-lent-at v p q x y z u =
-    record {
-      side-in = v;
-      cells-from = x ∙ rw p;
-      cells-to = y ∙ rw p;
-      scales-from = z ∙ rw q;
-      scales-to = u ∙ rw q;
-    }
+    -- it lies in them, and the scale words' place is no large number
+    pub lent-in : (a ≤ b) × (b ≤ cells) × (e ≤ f) × (f ≤ scales) × (f ≤ 68719476736)
+    lent-in =
+        let t = lent-at in
+        let c = cell-place {p = m} (omega arith) in
+        let d = scale-place {p = m} (omega arith) in (
+          omega (arith, zero-mul (bytesOf s), t .cells-from, t .cells-to),
+          omega (arith, t .cells-to, place-in c, k .cell-size),
+          omega (arith, zero-mul (wordsOf s), t .scales-from, t .scales-to),
+          omega (arith, t .scales-to, place-in d, k .scale-size),
+          omega (arith, t .scales-to, place-small d),
+        )
 
 module _ {s : Shape} {l side h given m a b e f : ℕ} (cells scales : List ℕ) (k : InHead s l h given m (length cells) (length scales))
     (q : Lent s l side h m a b e f) where
@@ -76,10 +91,10 @@ module _ {s : Shape} {l side h given m a b e f : ℕ} (cells scales : List ℕ) 
   block = buffers (part a (b - a) cells) (part e (f - e) scales)
 
   cells-in : PlaceIn s l side h m (bytesOf s)
-  cells-in = cell-place k (q .side-in) (omega arith) refl
+  cells-in = cell-place k (q .side-in) (omega arith)
 
   scales-in : PlaceIn s l side h m (wordsOf s)
-  scales-in = scale-place k (q .side-in) (omega arith) refl
+  scales-in = scale-place k (q .side-in) (omega arith)
 
   accepted : lowest (blockRefusals (s .format) given m block) ≡ 0
   unfolding lowest isBlock

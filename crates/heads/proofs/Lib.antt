@@ -2,4 +2,3 @@ mod BlockLaws
 pub mod Determined
 pub mod Exactly
 pub mod HeadLaws
-pub mod PlaceLaws

@@ -16,12 +16,3 @@ pub record InHead (s : Shape) (l h given m cells scales : ℕ) : Type 0 where
   pub span : m ≤ s .capacity
   pub cell-size : cells ≡ cellTotal s
   pub scale-size : scales ≡ scaleTotal s
-
--- position p of a head's block, or its end, where a row has b elements
-pub record PlaceIn (s : Shape) (l side h p b : ℕ) : Type 0 where
-  pub in-limits : limits s ≡ true
-  pub layer-in : l < s .layers
-  pub side-in : side < 2
-  pub head-in : h < s .heads
-  pub span : p ≤ s .capacity
-  pub small : b ≤ 1024

@@ -2,6 +2,7 @@
 use blocks::block_scores;
 use blocks::block_sums;
 use blocks::has_scores;
+use layers::place_of;
 use replies::Reply;
 use replies::number;
 use shapes::Shape;
@@ -17,11 +18,10 @@ ghost use Rattle.replies.specs.Reply.{replyNumber};
 ghost use Rattle.replies.specs.Outcome.{lowest, answered};
 ghost use Rattle.shapes.specs.Shape.{roomRefusals};
 ghost use Rattle.rows.specs.Calls.{buffers};
-ghost use Rattle.layers.specs.Layer.{place};
 ghost use Rattle.store.specs.Record.{lengthOf};
 ghost use Rattle.store.specs.Calls.{lengthsRefusal};
 ghost use Rattle.heads.specs.Calls.{scoresAt, sumsAt, headRefusals, headScoresOf, headSumsOf};
-ghost use Rattle.heads.specs.Fits.{InHead, PlaceIn};
+ghost use Rattle.heads.specs.Fits.{InHead};
 
 // Scores as many positions of a head's keys as `out` has places, under a query and a scale.
 pub fn scores(
@@ -179,14 +179,4 @@ fn sums_in(
     let e = place_of(shape, layer, side, head, 0, w);
     let f = place_of(shape, layer, side, head, weights.len(), w);
     block_sums(shape.format, weights, &cells[a..b], &scales[e..f], out);
-}
-
-// Where position `p` begins, or the block ends, in a buffer that has `each` elements for each position and head.
-fn place_of(shape: Shape, layer: u32, side: u32, head: u32, p: usize, each: usize) -> usize
-    requires { ⌜ PlaceIn shape layer side head p each ⌝ }
-    ensures { λ r. ⌜ r ≡ place each shape layer side head p ⌝ }
-{
-    let rows = ((2 * layer as usize + side as usize) * shape.heads as usize + head as usize)
-        * shape.capacity as usize;
-    rows * each + p * each
 }

@@ -5,3 +5,4 @@ pub mod LentLaws
 pub mod PlaceLaws
 pub mod RunLaws
 pub mod SizeLaws
+pub mod SpanLaws

@@ -3,7 +3,7 @@
 use Prim.Native.Nat.{ℕ, _+_, _*_}
 use mathlib.Core.Bool.{Bool, cond, not, _&&_}
 use mathlib.Core.List.{List, [], _∷_}
-use lib.Dec.{eqb, leb}
+use lib.Dec.{eqb, ltb, leb}
 use lib.ListN.{length}
 use Rattle.lists.specs.Chunks.{part}
 use Rattle.replies.specs.Outcome.{_when_, Outcome, outcome}
@@ -11,7 +11,7 @@ use Rattle.shapes.specs.Shape.{headSize, bytesOf, wordsOf, width, limits}
 use Rattle.shapes.specs.declared.Shape.{Shape}
 use Rattle.rows.specs.Row.{rowCells, rowScales}
 use Rattle.rows.specs.Calls.{Buffers, buffers}
-use Rattle.layers.specs.Layer.{layerSize, putLayer, zeros}
+use Rattle.layers.specs.Layer.{layerSize, putLayer, zeros, place}
 
 -- position first, then head: the numbers of head h in position i
 abbrev pub headNumbers : Shape → List ℕ → ℕ → ℕ → List ℕ
@@ -35,6 +35,13 @@ layerFits s p n cells scales =
 
 unfoldable pub numbersFit : Shape → ℕ → ℕ → ℕ → Bool
 numbersFit s n keys values = eqb keys (n * width s) && eqb values (n * width s)
+
+-- whether p is a position of a head, or C, the end of its block, where a row has b elements; its place, and 0 where it is none
+unfoldable pub hasPlace : ℕ → Shape → ℕ → ℕ → ℕ → ℕ → Bool
+hasPlace b s l side h p = limits s && (ltb l (s .layers) && (ltb side 2 && (ltb h (s .heads) && (leb p (s .capacity) && leb b 1024))))
+
+unfoldable pub placeOf : ℕ → Shape → ℕ → ℕ → ℕ → ℕ → ℕ
+placeOf b s l side h p = cond (hasPlace b s l side h p) (place b s l side h p) 0
 
 -- each call
 unfoldable pub putLayerOf : Shape → ℕ → ℕ → List ℕ → List ℕ → Buffers → Outcome Buffers

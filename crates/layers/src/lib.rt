@@ -14,7 +14,7 @@ ghost use Rattle.replies.specs.Outcome.{answered};
 ghost use Rattle.shapes.specs.Shape.{bytesOf, wordsOf, width, limits};
 ghost use Rattle.rows.specs.Calls.{buffers};
 ghost use Rattle.layers.specs.Layer.{blockSize, sideSize, layerSize, put, putSide, putLayer, zeros};
-ghost use Rattle.layers.specs.Calls.{sideOf, cellRow, scaleRow, layerFits, putLayerOf, clearLayerOf};
+ghost use Rattle.layers.specs.Calls.{sideOf, cellRow, scaleRow, layerFits, hasPlace, placeOf, putLayerOf, clearLayerOf};
 ghost use Rattle.layers.specs.Fits.{Fits, RowsFit};
 
 // Keys and values into positions `p` to `p + n - 1` of a layer.
@@ -79,6 +79,39 @@ fn layer_fits(shape: Shape, p: usize, n: usize, cells: usize, scales: usize) -> 
         return false;
     }
     scales == layer_size(shape, scale_words(shape.format, shape.head_size))
+}
+
+// Where a position of a head begins, or its block ends, in a buffer that has `each` elements for one position and head; 0 for a place that is neither.
+pub fn place_of(shape: Shape, layer: u32, side: u32, head: u32, p: usize, each: usize) -> usize
+    ensures { λ r. ⌜ r ≡ placeOf each shape layer side head p ⌝ }
+{
+    if !has_place(shape, layer, side, head, p, each) {
+        return 0;
+    }
+    let rows = ((2 * layer as usize + side as usize) * shape.heads as usize + head as usize)
+        * shape.capacity as usize;
+    rows * each + p * each
+}
+
+fn has_place(shape: Shape, layer: u32, side: u32, head: u32, p: usize, each: usize) -> bool
+    ensures { λ r. ⌜ r ≡ hasPlace each shape layer side head p ⌝ }
+{
+    if !in_limits(shape) {
+        return false;
+    }
+    if shape.layers <= layer {
+        return false;
+    }
+    if 2 <= side {
+        return false;
+    }
+    if shape.heads <= head {
+        return false;
+    }
+    if (shape.capacity as usize) < p {
+        return false;
+    }
+    each <= 1024
 }
 
 // The elements of a layer that has `each` for one position and head.

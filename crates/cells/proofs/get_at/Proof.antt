@@ -1,13 +1,15 @@
--- The row's number times its size is its place, and the row lies in each buffer.
+-- The row lies at its place in each buffer, and reads as what stands there.
 use mathlib.Core.Path.{refl, _∙_}
-use Prim.Native.Nat.{_+_, _*_, _≤_, _<_}
+use Prim.Native.Nat.{_+_, _≤_}
 use native.Mathlib.Omega.{arith}
-use borrow.Author.Needs.{needs}
 use lib.ListN.{length}
 use Rattle.lists.proofs.Part.{lent-count}
+use Rattle.shapes.specs.Shape.{bytesOf, wordsOf}
 use Rattle.rows.proofs.FitLaws.{shape-fits, get-left}
-use Rattle.cells.proofs.SizeLaws.{rowOf, row-small, row-in}
-use Rattle.cells.proofs.LentLaws.{row-read}
+use Rattle.layers.proofs.SizeLaws.{cells-most, words-most}
+use Rattle.cells.specs.Calls.{rowAt}
+use Rattle.cells.proofs.LentLaws.{row-within, row-lent}
+use borrow.Author.Needs.{needs}
 use Rattle.cells.proofs.get_at.Statement.{statement}
 use Rattle.cells.proofs.get_at.Tie as tie
 
@@ -17,55 +19,26 @@ cell-bytes-requires c κs = search needs
 scale-words-requires : tie.Need-scale-words-requires
 scale-words-requires c κs = search needs
 
--- the row's number is small, and the row lies in both buffers
-small : (a : tie.Start)
-    → let s = a .args .shape in let x = (2 * a .args .layer + a .args .side) * s .heads + a .args .head in
-    (x < 16384) × (x * s .capacity + a .args .position < 67108864)
-small a = row-small (a .args .shape) (a .pre .0) (a .pre .1)
+place-of-requires : tie.Need-place-of-requires
+place-of-requires c κs = search needs
 
-cells-in : (c : tie.After-struct-known2)
-    → let a = c .before .before .before .before .before .before .before .args in let r = c .before .before .before .cell-bytes .result in
-    rowOf (a .shape) (a .layer) (a .side) (a .head) (a .position) * r + r ≤ length (a .cells .now)
+place-of-requires-2 : tie.Need-place-of-requires-2
+place-of-requires-2 c κs = search needs
+
+-- the row lies in both buffers
+cells-in : (c : tie.After-place-of2)
+    → c .before .place-of .result + c .before .before .before .cell-bytes .result ≤ length (c .before .before .before .before .before .before .before .args .cells .now)
 cells-in c =
     let a = c .before .before .before .before .before .before .before in
-    row-in (a .args .shape) (a .pre .0) (a .pre .1) _ (c .before .before .before .cell-bytes .ensures) (a .pre .0 .cell-size)
+    row-within (a .pre .0) (a .pre .1) (bytesOf (a .args .shape)) (cells-most (a .args .shape) (a .pre .0 .in-limits) refl)
+    (c .before .before .before .cell-bytes .ensures) (c .before .place-of .ensures) (a .pre .0 .cell-size)
 
-words-in : (c : tie.After-struct-known2)
-    → let a = c .before .before .before .before .before .before .before .args in let r = c .before .before .scale-words .result in
-    rowOf (a .shape) (a .layer) (a .side) (a .head) (a .position) * r + r ≤ length (a .scales .now)
+words-in : (c : tie.After-place-of2)
+    → c .place-of2 .result + c .before .before .scale-words .result ≤ length (c .before .before .before .before .before .before .before .args .scales .now)
 words-in c =
     let a = c .before .before .before .before .before .before .before in
-    row-in (a .args .shape) (a .pre .0) (a .pre .1) _ (c .before .before .scale-words .ensures) (a .pre .0 .scale-size)
-
-mul-row : tie.Need-mul-row
-mul-row c = search needs
-
-add-row : tie.Need-add-row
-add-row c = search needs
-
-cast-row : tie.Need-cast-row
-cast-row c = search needs
-
-mul-row-2 : tie.Need-mul-row-2
-mul-row-2 c = omega (arith, small (c .before .before .before .before .before .before))
-
-add-row-2 : tie.Need-add-row-2
-add-row-2 c = omega (arith, small (c .before .before .before .before .before .before))
-
-cast-row-2 : tie.Need-cast-row-2
-cast-row-2 c = search needs
-
-mul-row-3 : tie.Need-mul-row-3
-mul-row-3 c = omega (arith, small (c .before .before .before .before .before .before .before))
-
-add-row-3 : tie.Need-add-row-3
-add-row-3 c = omega (arith, small (c .before .before .before .before .before .before .before))
-
-mul-a : tie.Need-mul-a
-mul-a c = omega (arith, cells-in c)
-
-mul-b : tie.Need-mul-b
-mul-b c = omega (arith, words-in c)
+    row-within (a .pre .0) (a .pre .1) (wordsOf (a .args .shape)) (words-most (a .args .shape) (a .pre .0 .in-limits) refl)
+    (c .before .before .scale-words .ensures) (c .place-of2 .ensures) (a .pre .0 .scale-size)
 
 add-get-row : tie.Need-add-get-row
 add-get-row c = omega (arith, cells-in c)
@@ -101,16 +74,24 @@ same-length : tie.Need-same-length
 same-length c = search needs
 
 returns : tie.Need-returns
+unfolding rowAt
 returns c =
     let g = c .before .before .before in
     let k = g .before .before .before in
     let a = k .before .before .before .before .before .before .before in
-    let fits = shape-fits (a .args .shape) (a .pre .0 .in-limits) (a .pre .1 .out-size)
-    (g .before .before .get-row-arg .given .2 ∙ lent-count _ refl (k .before .before .before .cell-bytes .ensures))
-    (g .before .get-row-arg2 .given .2 ∙ lent-count _ refl (k .before .before .scale-words .ensures)) in
-    row-read (a .args .shape) (a .args .layer) (a .args .side) (a .args .head) (a .args .position) (a .args .cells .now) (a .args .scales .now)
-    (k .before .before .before .cell-bytes .ensures) (k .before .before .scale-words .ensures) (a .pre .1 .out-size) refl refl
-    (get-left _ _ _ fits (c .before .before .get-row .ensures))
+    let s = a .args .shape in
+    let h = a .pre .0 .in-limits in
+    let cells = k .before .before .before .cell-bytes .ensures in
+    let words = k .before .before .scale-words .ensures in
+    let fits = shape-fits s h (a .pre .1 .out-size)
+    (g .before .before .get-row-arg .given .2 ∙ lent-count _ refl cells)
+    (g .before .get-row-arg2 .given .2 ∙ lent-count _ refl words) in
+    get-left _ _ _ fits (c .before .before .get-row .ensures)
+    ∙ rw (
+      row-lent (a .pre .0) (a .pre .1) (bytesOf s) (cells-most s h refl) cells (k .before .place-of .ensures) (a .args .cells .now),
+      row-lent (a .pre .0) (a .pre .1) (wordsOf s) (words-most s h refl) words (k .place-of2 .ensures) (a .args .scales .now),
+      a .pre .1 .out-size,
+    )
 
 pub get-at-spec : {M : Type 1} → statement M
 get-at-spec =
@@ -118,16 +99,8 @@ get-at-spec =
     (tie.spec
     cell-bytes-requires
     scale-words-requires
-    mul-row
-    add-row
-    cast-row
-    mul-row-2
-    add-row-2
-    cast-row-2
-    mul-row-3
-    add-row-3
-    mul-a
-    mul-b
+    place-of-requires
+    place-of-requires-2
     add-get-row
     sub-get-row
     part-get-row-start

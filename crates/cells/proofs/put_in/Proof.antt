@@ -9,8 +9,7 @@ use Rattle.shapes.proofs.ShapeLaws.{width-in}
 use Rattle.layers.specs.Calls.{sideOf, cellRow, scaleRow}
 use Rattle.layers.proofs.FitLaws.{put-left}
 use Rattle.cells.specs.Calls.{positions, appended}
-use Rattle.cells.proofs.SizeLaws.{whole-positions}
-use Rattle.cells.proofs.LentLaws.{Within, within, lent-fits, written-lent, buffers-alike}
+use Rattle.cells.proofs.LentLaws.{whole-positions, Within, within, lent-fits, written-lent, buffers-alike}
 use Rattle.cells.proofs.put_in.Statement.{statement}
 use Rattle.cells.proofs.put_in.Tie as tie
 

@@ -1,18 +1,61 @@
--- A place of a head's block lies in its buffer, and the block lent between two places has the rows that the paper's places give.
--- Each holds by the laws of products and of parts.
+-- Places of a head's block: each lies in its buffer, a row reaches from one to the next, and the block lent between two of them has the rows between.
+-- Each holds by the tests, or by the laws of products and of parts.
 use mathlib.Core.Path.{_≡_, _∙_}
+use mathlib.Core.Bool.{true}
 use mathlib.Core.List.{List}
 use Prim.Native.Nat.{ℕ, _+_, _-_, _*_, _≤_, _<_}
 use native.Mathlib.Nat.{mul-le-mul-right, zero-mul, add-zero, add-mul}
 use native.Mathlib.Omega.{arith}
 use lib.ListN.{length}
+use borrow.Author.Tests.{lt-ltb, le-leb, ltb-true, leb-true}
 use Rattle.lists.specs.Chunks.{part}
 use Rattle.lists.proofs.Part.{room, part-part, part-length}
+use Rattle.replies.proofs.Flags.{both}
 use Rattle.shapes.specs.declared.Shape.{Shape}
-use Rattle.shapes.specs.Shape.{total}
+use Rattle.shapes.specs.Shape.{total, limits}
 use Rattle.shapes.proofs.ShapeLaws.{limits-facts, total-small}
 use Rattle.layers.specs.Layer.{place}
-use Rattle.heads.specs.Fits.{PlaceIn}
+use Rattle.layers.specs.Calls.{hasPlace, placeOf}
+
+-- a position of a head, or the end of its block
+pub record PlaceIn (s : Shape) (l side h p b : ℕ) : Type 0 where
+  pub in-limits : limits s ≡ true
+  pub layer-in : l < s .layers
+  pub side-in : side < 2
+  pub head-in : h < s .heads
+  pub span : p ≤ s .capacity
+  pub small : b ≤ 1024
+
+-- all tests passed, and back
+module _ {s : Shape} {l side h p b : ℕ} where
+  pub place-facts : hasPlace b s l side h p ≡ true → PlaceIn s l side h p b
+  unfolding hasPlace
+  place-facts t =
+      let x = both _ _ t in
+      let y = both _ _ (x .1) in
+      let z = both _ _ (y .1) in
+      let u = both _ _ (z .1) in
+      let v = both _ _ (u .1) in
+      record {
+        in-limits = x .0;
+        layer-in = ltb-true _ _ (y .0);
+        side-in = ltb-true _ _ (z .0);
+        head-in = ltb-true _ _ (u .0);
+        span = leb-true _ _ (v .0);
+        small = leb-true _ _ (v .1);
+      }
+
+  pub placed : PlaceIn s l side h p b → placeOf b s l side h p ≡ place b s l side h p
+  unfolding placeOf hasPlace
+  placed k =
+      rw (
+        k .in-limits,
+        lt-ltb _ _ (k .layer-in),
+        lt-ltb _ _ (k .side-in),
+        lt-ltb _ _ (k .head-in),
+        le-leb _ _ (k .span),
+        le-leb _ _ (k .small),
+      )
 
 -- the heads before a head, and the rows before its block
 abbrev pub headOf : Shape → ℕ → ℕ → ℕ → ℕ
@@ -41,6 +84,19 @@ module _ {s : Shape} {l side h p b : ℕ} (k : PlaceIn s l side h p b) where
   place-small =
       let t = total-small s b (limits-facts s (k .in-limits)) (k .small) in
       (omega (arith, head-below), omega (arith, rows-below), omega (arith, place-in))
+
+-- the row of a position reaches from its place to the next
+pub row-in : {s : Shape} {l side h p b : ℕ} → PlaceIn s l side h p b → p < s .capacity → place b s l side h p + b ≤ total b s
+row-in {s} {l} {side} {h} {p} {b} k u =
+    let next : PlaceIn s l side h (p + 1) b = record {
+      in-limits = k .in-limits;
+      layer-in = k .layer-in;
+      side-in = k .side-in;
+      head-in = k .head-in;
+      span = omega arith;
+      small = k .small;
+    } in
+    omega (arith, place-in next, add-mul p 1 b)
 
 -- a head's block of m rows, lent between two places
 module _ {s : Shape} {l side h m b : ℕ} (k : PlaceIn s l side h m b) (buf : List ℕ) {from to : ℕ} (q : from ≡ place b s l side h 0)
