@@ -159,6 +159,7 @@ mod tests {
     use crate::rules::word_of;
     use crate::rust::{compute_int4_scale, pack_i4_group};
     use crate::{summands, words};
+    use std::panic::{catch_unwind, AssertUnwindSafe};
 
     /// The group of P2: its bytes and its scale.
     fn group() -> ([u8; 16], [f32; 1]) {
@@ -239,5 +240,32 @@ mod tests {
         sums.fill(-9.0);
         decode_head_attention_int4_sums(&[], &[], 64, &mut [], &mut sums);
         assert_eq!(sum_words(&sums), [0; 64]);
+    }
+
+    #[test]
+    fn a_query_past_the_head_is_ignored_and_a_short_one_panics() {
+        let mut scores = [0.0];
+        decode_head_attention_f32_scores(&[2.0, 9.0], &[3.0], 1, 1.0, &mut scores);
+        assert_eq!(scores, [6.0]);
+        let short = || decode_head_attention_f32_scores(&[], &[3.0], 1, 1.0, &mut [0.0]);
+        assert!(catch_unwind(short).is_err());
+    }
+
+    #[test]
+    fn an_output_past_the_head_is_left_by_columns_and_zeroed_by_rows() {
+        for (positions, rest) in [(64, 9.0), (65, 0.0)] {
+            let (values, mut weights) = (vec![1.0; positions], vec![1.0; positions]);
+            let mut sums = [9.0; 2];
+            decode_head_attention_f32_sums(&values, 1, &mut weights, &mut sums);
+            assert_eq!(sums, [positions as f32, rest]);
+        }
+    }
+
+    #[test]
+    fn more_scores_than_positions_panic_after_those_that_are_there() {
+        let mut scores = [9.0; 2];
+        let more = || decode_head_attention_f32_scores(&[2.0], &[3.0], 1, 1.0, &mut scores);
+        assert!(catch_unwind(AssertUnwindSafe(more)).is_err());
+        assert_eq!(scores, [6.0, 9.0]);
     }
 }
