@@ -3,7 +3,7 @@
 //! Most stores hold more positions than the Rust's small context, so that its columns and its rows are both judges.
 mod stores;
 #[cfg(test)]
-mod wrong;
+pub mod wrong;
 
 use crate::calls::{Call, Change, Holdings, Step};
 use crate::dice::Dice;
@@ -74,7 +74,6 @@ mod tests {
     use super::*;
     use crate::calls::{kind, Answer, Told};
     use crate::replies;
-    use crate::rules::word_of;
     use crate::wanted::Wanted;
     use crate::words::numbers;
     use std::collections::{BTreeMap, BTreeSet};
@@ -177,47 +176,17 @@ mod tests {
         assert!(plain * 2 > all, "{plain} of {all}");
     }
 
-    /// The names of the wrong ways in which a call that is done would be answered otherwise.
-    fn told_apart(call: &Call, right: &[u32], wanted: &mut Wanted) -> Vec<&'static str> {
-        let format = wanted.holdings.record.shape().format;
-        let differs = |made: Vec<f32>| !made.into_iter().map(word_of).eq(right.iter().copied());
-        let mut names = Vec::new();
-        match call {
-            Call::Scores {
-                head, query, scale, ..
-            } => {
-                let data = &wanted.store().layer_data[head.layer as usize];
-                let (query, scale) = (numbers(query), f32::from_bits(*scale));
-                for (name, _, answer) in wrong::SCORES.iter().filter(|wrong| wrong.1 == format) {
-                    let mut scores = vec![0.0; right.len()];
-                    answer(data, head.head as usize, &query, scale, &mut scores);
-                    names.extend(differs(scores).then_some(*name));
-                }
-            }
-            Call::Sums { head, weights, .. } => {
-                let data = &wanted.store().layer_data[head.layer as usize];
-                for (name, _, answer) in wrong::SUMS.iter().filter(|wrong| wrong.1 == format) {
-                    let mut sums = vec![0.0; right.len()];
-                    answer(data, head.head as usize, &numbers(weights), &mut sums);
-                    names.extend(differs(sums).then_some(*name));
-                }
-            }
-            _ => unreachable!("no call on a head"),
-        }
-        names
-    }
-
     #[test]
     fn a_wrong_order_shows_in_many_calls() {
         let mut told: BTreeMap<&str, u32> = BTreeMap::new();
         each_answer(|call, answer, wanted| {
             if answer.reply == 0 {
-                for name in told_apart(call, &made(call, answer), wanted) {
+                for name in wrong::told_apart(call, &made(call, answer), wanted) {
                     *told.entry(name).or_default() += 1;
                 }
             }
         });
-        assert_eq!(told.len(), wrong::SCORES.len() + wrong::SUMS.len());
+        assert_eq!(told.len(), wrong::names().count());
         assert!(told.values().all(|calls| *calls > 100), "{told:?}");
     }
 }

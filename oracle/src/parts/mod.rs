@@ -2,7 +2,7 @@
 mod bf16;
 mod codes;
 mod groups;
-mod heads;
+pub mod heads;
 mod reading;
 mod scales;
 mod store;

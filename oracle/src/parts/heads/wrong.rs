@@ -1,18 +1,22 @@
 //! Wrong answers that look right: what the Rust would give if it worked in another order.
+use crate::calls::Call;
 use crate::heads;
 use crate::record::{F32, INT4};
+use crate::rules::word_of;
 use crate::rust::{unpack_i4_group, INT4_GROUP_SIZE};
 use crate::rust_heads::{
     decode_head_attention_f32_sums, decode_head_attention_int4_scores,
     decode_head_attention_int4_sums,
 };
 use crate::rust_store::KvLayerData;
+use crate::wanted::Wanted;
+use crate::words::numbers;
 
 type Scores = fn(&KvLayerData, usize, &[f32], f32, &mut [f32]);
 type Sums = fn(&KvLayerData, usize, &[f32], &mut [f32]);
 
 /// Wrong scores, each with its name and a format.
-pub const SCORES: [(&str, u32, Scores); 4] = [
+const SCORES: [(&str, u32, Scores); 4] = [
     ("the given scale before the sum, F32", F32, scaled_before),
     ("the given scale before the sum, INT4", INT4, scaled_before),
     ("each product scaled", INT4, each_product_scaled),
@@ -20,7 +24,7 @@ pub const SCORES: [(&str, u32, Scores); 4] = [
 ];
 
 /// Wrong sums, each with its name and a format.
-pub const SUMS: [(&str, u32, Sums); 3] = [
+const SUMS: [(&str, u32, Sums); 3] = [
     ("positions downwards, F32", F32, downwards),
     ("positions downwards, INT4", INT4, downwards),
     (
@@ -29,6 +33,42 @@ pub const SUMS: [(&str, u32, Sums); 3] = [
         weight_after_scale,
     ),
 ];
+
+/// The names of all wrong answers.
+pub fn names() -> impl Iterator<Item = &'static str> {
+    let scores = SCORES.iter().map(|wrong| wrong.0);
+    scores.chain(SUMS.iter().map(|wrong| wrong.0))
+}
+
+/// The names of those that a call on a head tells from what it has to make; none of another call.
+pub fn told_apart(call: &Call, right: &[u32], wanted: &mut Wanted) -> Vec<&'static str> {
+    let format = wanted.holdings.record.shape().format;
+    let differs = |made: Vec<f32>| !made.into_iter().map(word_of).eq(right.iter().copied());
+    let mut names = Vec::new();
+    match call {
+        Call::Scores {
+            head, query, scale, ..
+        } => {
+            let data = &wanted.store().layer_data[head.layer as usize];
+            let (query, scale) = (numbers(query), f32::from_bits(*scale));
+            for (name, _, answer) in SCORES.iter().filter(|wrong| wrong.1 == format) {
+                let mut scores = vec![0.0; right.len()];
+                answer(data, head.head as usize, &query, scale, &mut scores);
+                names.extend(differs(scores).then_some(*name));
+            }
+        }
+        Call::Sums { head, weights, .. } => {
+            let data = &wanted.store().layer_data[head.layer as usize];
+            for (name, _, answer) in SUMS.iter().filter(|wrong| wrong.1 == format) {
+                let mut sums = vec![0.0; right.len()];
+                answer(data, head.head as usize, &numbers(weights), &mut sums);
+                names.extend(differs(sums).then_some(*name));
+            }
+        }
+        _ => {}
+    }
+    names
+}
 
 /// The query is multiplied by the given scale, and the sum is not.
 fn scaled_before(data: &KvLayerData, head: usize, query: &[f32], scale: f32, scores: &mut [f32]) {
