@@ -1,4 +1,5 @@
 //! The second fixed list: calls on small stores, and the answers that a Rattle program gives again.
+mod heads;
 mod list;
 mod steps;
 
@@ -12,7 +13,7 @@ use std::{fs, io};
 const CELLS: (usize, u8) = (2048, 0xA5);
 /// Scale words at hand, and what each holds at first.
 const SCALES: (usize, u32) = (256, 0xA5A5_A5A5);
-/// What each place of an output holds before a row is read.
+/// What each place of an output holds before a call.
 const OUTPUT: u32 = 0xDEAD;
 
 /// Writes the list to the files `stdin` and `stdout` of a folder.
@@ -79,24 +80,43 @@ fn arguments(call: &Call) -> Vec<u32> {
             place.position,
             *lent as u32,
         ],
-        Call::Scores { .. } | Call::Sums { .. } => unreachable!("the list has no calls on heads"),
+        Call::Scores {
+            head,
+            query,
+            scale,
+            lent,
+            ..
+        } => [&[head.layer, head.head, *scale, *lent as u32], &query[..]].concat(),
+        Call::Sums {
+            head,
+            weights,
+            lent,
+            ..
+        } => [&[head.layer, head.head, *lent as u32], &weights[..]].concat(),
     }
 }
 
 /// The text of `stdout`.
 fn answers(steps: &[Step]) -> String {
-    let mut wanted = at_first();
     let mut text = String::new();
+    play(steps, |_, answer, wanted| {
+        text += &answered(answer, &wanted.holdings);
+    });
+    text
+}
+
+/// Plays steps, and shows each call, its answer, and what the caller has to hold.
+fn play(steps: &[Step], mut show: impl FnMut(&Call, &Answer, &mut Wanted)) {
+    let mut wanted = at_first();
     for step in steps {
         match step {
             Step::Call(call) => {
                 let answer = wanted.play(call);
-                text += &answered(&answer, &wanted.holdings);
+                show(call, &answer, &mut wanted);
             }
             Step::Change(change) => wanted.make(*change),
         }
     }
-    text
 }
 
 /// The lines of `stdout` that answer a call: where it may change something, with all that it leaves.
@@ -137,38 +157,70 @@ fn words_text(words: &[u32]) -> String {
 #[cfg(test)]
 mod tests {
     use super::*;
+    use crate::parts::heads::wrong;
     use crate::replies;
     use std::collections::BTreeSet;
 
-    /// The last kind of call that the list has.
-    const LAST_KIND: u32 = 7;
+    /// Bytes of `stdin` that the program takes.
+    const MOST_BYTES: usize = 131_072;
 
     #[test]
     fn every_call_of_the_list_gives_each_of_its_replies() {
-        let mut wanted = at_first();
         let mut seen = BTreeSet::new();
-        for step in list::all() {
-            match step {
-                Step::Call(call) => {
-                    seen.insert((kind(&call), wanted.play(&call).reply));
-                }
-                Step::Change(change) => wanted.make(change),
-            }
-        }
-        let of_list = replies::each()
-            .into_iter()
-            .filter(|(kind, _)| *kind <= LAST_KIND);
-        assert_eq!(seen, of_list.collect());
+        play(&list::all(), |call, answer, _| {
+            seen.insert((kind(call), answer.reply));
+        });
+        assert_eq!(seen, replies::each());
     }
 
     #[test]
-    fn lines_and_outputs_are_within_256_words() {
-        for step in list::all() {
+    fn every_wrong_order_shows_in_scores_and_sums_by_hand() {
+        let mut told = BTreeSet::new();
+        play(&heads::all(), |call, answer, wanted| {
+            if let (0, Told::Output(made)) = (answer.reply, &answer.told) {
+                told.extend(wrong::told_apart(call, made, wanted));
+            }
+        });
+        assert_eq!(told, wrong::names().collect());
+    }
+
+    #[test]
+    fn the_list_fits_into_the_program() {
+        let steps = list::all();
+        let bytes: usize = steps.iter().map(|step| asked(step).len()).sum();
+        assert!(bytes <= MOST_BYTES);
+        for step in steps {
             assert!(words_of(&step).len() <= 256);
-            if let Step::Call(Call::ReadRow { output, lent, .. }) = step {
+            if let Step::Call(
+                Call::ReadRow { output, lent, .. }
+                | Call::Scores { output, lent, .. }
+                | Call::Sums { output, lent, .. },
+            ) = step
+            {
                 assert!(output == vec![OUTPUT; lent] && lent <= 256);
             }
         }
+    }
+
+    #[test]
+    fn the_group_of_p2_has_the_score_and_the_sums_of_p9() {
+        let text = answers(&heads::group_of_p2());
+        let zeros = " 00000000".repeat(15);
+        let sums = format!("3fe00000{zeros} bfe00000{zeros}");
+        assert!(text.ends_with(&format!(
+            "reply 0 numbers c0600000\nreply 0 numbers {sums}\n"
+        )));
+    }
+
+    #[test]
+    fn rising_sums_lose_what_stands_beside_a_larger_number() {
+        let text = answers(&heads::orders());
+        let numbers = "3f800000 00000000 b9800000 7f800000";
+        assert_eq!(
+            text.matches(&format!("reply 0 numbers {numbers}\n"))
+                .count(),
+            2
+        );
     }
 
     #[test]

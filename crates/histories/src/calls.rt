@@ -26,15 +26,17 @@ fn step(
     scales: &mut [u32],
 ) {
     let kind = word(line, 0);
-    if kind == 8 {
-        lent[0] = word(line, 1);
-        lent[1] = word(line, 2);
-    } else if kind < 8 {
-        let a = smaller(lent[0], cells.len());
-        let b = smaller(lent[1], scales.len());
-        call(line, kind, rec, &mut cells[0..a], &mut scales[0..b]);
-    } else {
-        damage(line, kind, rec, cells, scales);
+    match kind {
+        8 => {
+            lent[0] = word(line, 1);
+            lent[1] = word(line, 2);
+        }
+        9..=11 => damage(line, kind, rec, cells, scales),
+        _ => {
+            let a = smaller(lent[0], cells.len());
+            let b = smaller(lent[1], scales.len());
+            call(line, kind, rec, &mut cells[0..a], &mut scales[0..b]);
+        }
     }
 }
 
@@ -63,14 +65,15 @@ fn smaller(a: u32, b: usize) -> usize
 
 // A call, and what is told of it.
 fn call(line: &[u8], kind: u32, rec: &mut [u32; 134], cells: &mut [u8], scales: &mut [u32]) {
-    if kind < 5 {
-        show::reply(change(line, kind, rec, cells, scales));
-        show::line_end();
-        show::left(rec, cells, scales);
-    } else if kind < 7 {
-        count(line, kind, rec);
-    } else {
-        read(line, rec, cells, scales);
+    match kind {
+        5 | 6 => count(line, kind, rec),
+        7 => read(line, rec, cells, scales),
+        12 | 13 => compute(line, kind, rec, cells, scales),
+        _ => {
+            show::reply(change(line, kind, rec, cells, scales));
+            show::line_end();
+            show::left(rec, cells, scales);
+        }
     }
 }
 
@@ -102,19 +105,21 @@ fn change(
 // Keys and values are the words after the layer and the number of keys.
 fn append(line: &[u8], rec: &mut [u32; 134], cells: &mut [u8], scales: &mut [u32]) -> u32 {
     let mut numbers = [0u32; 256];
-    let n = numbers_of(line, &mut numbers);
+    let n = numbers_of(line, 3, &mut numbers);
     append_first(line, rec, cells, scales, &numbers, n)
 }
 
-// Puts the numbers of a line to the front of `numbers`, and answers how many they are.
-fn numbers_of(line: &[u8], numbers: &mut [u32; 256]) -> u32 {
+// Puts the words of a line from word `k` on to the front of `numbers`, and answers how many they are.
+fn numbers_of(line: &[u8], k: usize, numbers: &mut [u32; 256]) -> u32
+    requires { ⌜ k ≤ 5 ⌝ }
+{
     let n = words(line);
     let mut i = 0;
     while i < 256 {
-        if n <= i + 3 {
+        if n <= i + k {
             return i as u32;
         }
-        numbers[i] = word(line, i + 3);
+        numbers[i] = word(line, i + k);
         i += 1;
     }
     256
@@ -186,6 +191,83 @@ fn read_into(line: &[u8], rec: &[u32; 134], cells: &[u8], scales: &[u32], out: &
     show::reply(reply);
     show::numbers(&out[0..n]);
     show::line_end();
+}
+
+// A call that computes: scores or sums of a head.
+fn compute(line: &[u8], kind: u32, rec: &[u32; 134], cells: &[u8], scales: &[u32]) {
+    let mut numbers = [0u32; 256];
+    let mut given = [0f32; 256];
+    let n = numbers_of(line, places_at(kind) + 1, &mut numbers);
+    floats_of(&numbers, &mut given);
+    compute_first(line, kind, rec, cells, scales, &given, n);
+}
+
+// The word that says into how many places; the query or the weights come after it.
+fn places_at(kind: u32) -> usize
+    ensures { λ r. ⌜ r ≤ 4 ⌝ }
+{
+    if kind == 12 { 4 } else { 3 }
+}
+
+// The floats that words stand for.
+fn floats_of(numbers: &[u32; 256], floats: &mut [f32; 256]) {
+    let mut i = 0;
+    while i < 256 {
+        floats[i] = numbers::words::word_to_f32(numbers[i]);
+        i += 1;
+    }
+}
+
+// The first `n` floats are given.
+fn compute_first(
+    line: &[u8],
+    kind: u32,
+    rec: &[u32; 134],
+    cells: &[u8],
+    scales: &[u32],
+    given: &[f32; 256],
+    n: u32,
+) {
+    let dirt = numbers::words::word_to_f32(0xDEAD);
+    let mut out = [dirt; 256];
+    compute_into(line, kind, rec, cells, scales, given, n, &mut out);
+}
+
+fn compute_into(
+    line: &[u8],
+    kind: u32,
+    rec: &[u32; 134],
+    cells: &[u8],
+    scales: &[u32],
+    given: &[f32],
+    n: u32,
+    out: &mut [f32],
+) {
+    let e = smaller(n, given.len());
+    let m = smaller(word(line, places_at(kind)), out.len());
+    let reply = computed(line, kind, rec, cells, scales, &given[0..e], &mut out[0..m]);
+    show::reply(reply);
+    show::floats(&out[0..m]);
+    show::line_end();
+}
+
+fn computed(
+    line: &[u8],
+    kind: u32,
+    rec: &[u32; 134],
+    cells: &[u8],
+    scales: &[u32],
+    given: &[f32],
+    out: &mut [f32],
+) -> u32 {
+    let layer = word(line, 1);
+    let head = word(line, 2);
+    if kind == 12 {
+        let scale = numbers::words::word_to_f32(word(line, 3));
+        host::kv_scores(rec, cells, scales, layer, head, given, scale, out)
+    } else {
+        host::kv_sums(rec, cells, scales, layer, head, given, out)
+    }
 }
 
 // A word of the record, a cell or a scale word, changed behind the store's back.

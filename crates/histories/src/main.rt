@@ -1,10 +1,10 @@
-// Plays calls of a store on a boundary of words and bytes, and tells what each answers and leaves. A line of standard
-// input is a call: words in hex, the first of which is its kind.
+// Plays calls of a store on a boundary of words, floats and bytes, and tells what each answers and leaves. A line of
+// standard input is a call: words in hex, the first of which is its kind.
 mod calls;
 mod show;
 
 fn main() {
-    let mut space = io::large_buffer();
+    let mut space = [0u8; 131_072];
     let n = io::read_full(0, &mut space);
     start(&space[..n]);
 }

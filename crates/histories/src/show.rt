@@ -18,6 +18,11 @@ pub(crate) fn numbers(words: &[u32]) {
     word_fields(words);
 }
 
+pub(crate) fn floats(numbers: &[f32]) {
+    io::write_all(STDOUT_FILENO, b" numbers");
+    float_fields(numbers);
+}
+
 pub(crate) fn line_end() {
     io::write_all(STDOUT_FILENO, b"\n");
 }
@@ -78,6 +83,14 @@ fn word_fields(words: &[u32]) {
     }
 }
 
+fn float_fields(numbers: &[f32]) {
+    let mut i = 0;
+    while i < numbers.len() {
+        float_field(numbers[i]);
+        i += 1;
+    }
+}
+
 fn byte_fields(bytes: &[u8]) {
     let mut i = 0;
     while i < bytes.len() {
@@ -89,6 +102,10 @@ fn byte_fields(bytes: &[u8]) {
 fn decimal(n: u32) {
     io::write_all(STDOUT_FILENO, b" ");
     io::print_decimal(STDOUT_FILENO, n as u64);
+}
+
+fn float_field(x: f32) {
+    field(numbers::words::f32_to_word(x), 8);
 }
 
 fn byte_field(b: u8) {

@@ -1,9 +1,9 @@
 //! The steps of the second fixed list.
-use super::at_first;
 use super::steps::{
-    append, beside, cached_len, each_call, exact, filled, lend, opened, questions, read, read_row,
-    record_word, shape, truncate, word_of_filled, SMALL,
+    append, beside, cached_len, each_call, exact, filled, lend, opened, questions, read,
+    record_word, scores, shape, sums, truncate, with_output, word_of_filled, SMALL,
 };
+use super::{at_first, heads};
 use crate::calls::{Call, Change, Step};
 use crate::dice::Dice;
 use crate::draws;
@@ -46,6 +46,7 @@ pub fn all() -> Vec<Step> {
     steps.extend(lowest_numbers());
     steps.extend(cells_by_hand());
     steps.extend(lengths_by_hand());
+    steps.extend(heads::all());
     for (shape, piece) in SHAPES.iter().zip(0..) {
         steps.extend(random_history(shape, piece));
     }
@@ -277,6 +278,8 @@ fn lowest_numbers() -> Vec<Step> {
         Step::Call(Call::Advance { count: 1 }),
         cached_len(2),
         read(2, 2, 2, 2, 3),
+        scores(2, 2, &[1; 3], 1, 3),
+        sums(2, 2, &[1; 3], 3),
     ];
     let damages = [Some((0, 4)), Some((FIRST_LENGTH + 5, 1)), None];
     for lent in [short, exact] {
@@ -372,10 +375,9 @@ fn random_history(shape: &Shape, piece: u64) -> Vec<Step> {
 /// A random call that fits on a line.
 fn random_call(record: &Record, dice: &mut Dice) -> Call {
     loop {
-        match draws::call(record, dice) {
+        match draws::any_call(record, dice) {
             Call::Append { keys, values, .. } if keys.len().max(values.len()) > MOST_NUMBERS => {}
-            Call::ReadRow { place, lent, .. } => return read_row(place, lent),
-            call => return call,
+            call => return with_output(call),
         }
     }
 }

@@ -2,7 +2,7 @@
 use super::{CELLS, OUTPUT, SCALES};
 use crate::calls::{Call, Change, Step};
 use crate::record::{Lent, Record, Shape, INT8};
-use crate::replies::Place;
+use crate::replies::{Head, Place};
 
 /// Two layers of two positions, two heads of two numbers: the store that refusals are tried on.
 pub const SMALL: Shape = shape(INT8, 2, 2, 2, 2);
@@ -46,6 +46,8 @@ pub fn each_call() -> Vec<Step> {
         cached_len(0),
         Step::Call(Call::MemoryBytes),
         read(0, 1, 1, 0, 2),
+        scores(0, 1, &[1; 2], 1, 1),
+        sums(0, 1, &[1], 2),
     ]
 }
 
@@ -113,15 +115,41 @@ pub fn read(layer: u32, side: u32, head: u32, position: u32, places: usize) -> S
         head,
         position,
     };
-    Step::Call(read_row(place, places))
+    Step::Call(with_output(Call::ReadRow {
+        place,
+        output: Vec::new(),
+        lent: places,
+    }))
 }
 
-pub fn read_row(place: Place, places: usize) -> Call {
-    Call::ReadRow {
-        place,
-        output: vec![OUTPUT; places],
+pub fn scores(layer: u32, head: u32, query: &[u32], scale: u32, places: usize) -> Step {
+    Step::Call(with_output(Call::Scores {
+        head: Head { layer, head },
+        query: query.to_vec(),
+        scale,
+        output: Vec::new(),
         lent: places,
+    }))
+}
+
+pub fn sums(layer: u32, head: u32, weights: &[u32], places: usize) -> Step {
+    Step::Call(with_output(Call::Sums {
+        head: Head { layer, head },
+        weights: weights.to_vec(),
+        output: Vec::new(),
+        lent: places,
+    }))
+}
+
+/// The same call, where it has an output with the one that the program lends.
+pub fn with_output(mut call: Call) -> Call {
+    if let Call::ReadRow { output, lent, .. }
+    | Call::Scores { output, lent, .. }
+    | Call::Sums { output, lent, .. } = &mut call
+    {
+        *output = vec![OUTPUT; *lent];
     }
+    call
 }
 
 pub fn lend(lent: Lent) -> Step {

@@ -5,10 +5,10 @@ use Rattle.histories.proofs.calls.numbers_of.Statement.{statement}
 use Rattle.histories.proofs.calls.numbers_of.Tie as tie
 
 abbrev Inv-loop : tie.InvT-loop
-Inv-loop line numbers₀ n i₀ numbers i = i ≤ 256
+Inv-loop line k numbers₀ n i₀ numbers i = i ≤ 256
 
 abbrev μ-loop : tie.MeasureT-loop
-μ-loop line numbers₀ n i₀ numbers i = 256 - i
+μ-loop line k numbers₀ n i₀ numbers i = 256 - i
 
 words-requires : tie.Need-words-requires Inv-loop μ-loop
 words-requires c κs = search needs
