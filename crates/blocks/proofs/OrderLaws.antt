@@ -1,4 +1,4 @@
--- Scores and sums of positions that agree, and terms added to a sum and to a list of sums: place by place, a stretch at a time, position after position.
+-- Terms added to a sum and to a list of sums: place by place, a stretch at a time, position after position; and scores and sums of positions that agree.
 -- Each holds by the laws of tables and turns, since a place's sum takes its own terms alone, in their order.
 use mathlib.Core.Path.{_≡_, refl, _∙_}
 use mathlib.Core.List.{List, _++_, append-assoc}
@@ -14,15 +14,6 @@ use Rattle.lists.proofs.Turns.{turns-next, turns-same}
 use Rattle.lists.proofs.Part.{part-length}
 use Rattle.numbers.specs.Word.{float}
 use Rattle.blocks.specs.Order.{summed, scoresOf, sumsOf, added}
-
--- positions that agree have the same scores, and the same sums
-pub scores-same : (m : ℕ) (dot dot′ : ℕ → Float) (x : Float) → ((p : ℕ) → p < m → dot p ≡ dot′ p) → scoresOf m dot x ≡ scoresOf m dot′ x
-unfolding scoresOf
-scores-same m dot dot′ x e = tab-same m _ _ (λ p u. rw (e p u))
-
-pub sums-same : (d m : ℕ) (term term′ : ℕ → ℕ → Float) → ((p i : ℕ) → p < m → term p i ≡ term′ p i) → sumsOf d m term ≡ sumsOf d m term′
-unfolding sumsOf summed
-sums-same d m term term′ e = tab-same d _ _ (λ i w. turns-same m _ _ _ (λ p u. rw (e p i u)))
 
 -- one term more
 pub summed-next : (n : ℕ) (term : ℕ → Float) {x y : Float} → x ≡ summed n term → y ≡ add binary32 x (term n) → y ≡ summed (n + 1) term
@@ -68,3 +59,12 @@ module _ (term : ℕ → Float) (l : List Float) where
   pub added-all : {j : ℕ} {out : List Float} → out ≡ addedTo j term l → j ≡ length l → out ≡ added term l
   unfolding added
   added-all o e = tab-done (length l) _ l o e refl
+
+-- positions that agree have the same scores, and the same sums
+pub scores-same : (m : ℕ) (dot dot′ : ℕ → Float) (x : Float) → ((p : ℕ) → p < m → dot p ≡ dot′ p) → scoresOf m dot x ≡ scoresOf m dot′ x
+unfolding scoresOf
+scores-same m dot dot′ x e = tab-same m _ _ (λ p u. rw (e p u))
+
+pub sums-same : (d m : ℕ) (term term′ : ℕ → ℕ → Float) → ((p i : ℕ) → p < m → term p i ≡ term′ p i) → sumsOf d m term ≡ sumsOf d m term′
+unfolding sumsOf summed
+sums-same d m term term′ e = tab-same d _ _ (λ i w. turns-same m _ _ _ (λ p u. rw (e p i u)))

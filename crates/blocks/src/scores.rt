@@ -1,5 +1,5 @@
 // The score of one row under a query, in each format that has scores.
-use crate::sums::code_from;
+use crate::codes::code_from;
 use numbers::words::word_to_f32;
 use rows::word_of_bytes;
 ghost use mathlib.Core.Path.{_≡_};

@@ -1,12 +1,10 @@
 // One weighted row added to a head's sums, in each format that has them.
-use numbers::codes::less_8;
+use crate::codes::code_from;
 use numbers::words::word_to_f32;
 use rows::word_of_bytes;
 ghost use mathlib.Core.Path.{_≡_};
-ghost use Prim.Native.Nat.{_/_, _%_, _^_, _≤_};
 ghost use lib.ListN.{length};
 ghost use lib.Ieee.{binary32, mul};
-ghost use Rattle.numbers.specs.Code.{less8};
 ghost use Rattle.blocks.specs.Order.{groupCode, f32Term, int4Term, rowTerm, added};
 ghost use Rattle.blocks.specs.Fits.{Rows, IsF32, IsInt4};
 
@@ -66,12 +64,4 @@ fn add_group(weight: f32, scale: f32, bytes: &[u8], out: &mut [f32])
         out[i + 16] = high;
         i += 1;
     }
-}
-
-// The code less 8 that begins at bit `from` of a byte.
-pub(crate) fn code_from(from: u32, byte: u8) -> f32
-    requires { ⌜ from ≤ 4 ⌝ }
-    ensures { λ r. ⌜ r ≡ less8 (byte / 2 ^ from % 16) ⌝ }
-{
-    less_8((byte >> from) % 16)
 }
