@@ -1,19 +1,27 @@
 -- What the tests of a block say: the lengths of its rows, that they are small, and that each row is a block of its own.
 -- Each holds by the tests, one by one.
-use mathlib.Core.Path.{_≡_}
+use mathlib.Core.Path.{_≡_, refl}
 use mathlib.Core.Bool.{true}
 use mathlib.Core.List.{List}
 use Prim.Native.Nat.{ℕ, _+_, _-_, _*_, _%_, _≤_, _<_}
 use native.Mathlib.Nat.{one-mul, mul-le-mul}
 use native.Mathlib.Omega.{arith}
-use borrow.Author.Tests.{leb-true, eqb-true, le-leb, eq-eqb, ne-eqb}
+use borrow.Author.Tests.{leb-true, eqb-true, le-leb, eq-eqb, ne-eqb, not-false}
 use Rattle.lists.specs.Chunks.{part}
 use Rattle.lists.proofs.Part.{room}
+use Rattle.replies.specs.Outcome.{lowest}
 use Rattle.replies.proofs.Flags.{both}
+use Rattle.replies.proofs.Refusals.{lowest-none}
 use Rattle.shapes.specs.Shape.{ofFormat, cellBytes, scaleWords}
 use Rattle.blocks.specs.Order.{hasScores}
-use Rattle.blocks.specs.Block.{isBlock}
+use Rattle.blocks.specs.Block.{isBlock, blockRefusals}
 use Rattle.blocks.specs.Fits.{Rows, IsF32, IsInt4}
+
+-- what reply 0 says of a call's arguments
+pub rows-there : (format d m cells scales : ℕ) → lowest (blockRefusals format d m cells scales) ≡ 0 → Rows format d m cells scales
+rows-there format d m cells scales z =
+    let t = lowest-none 0 (blockRefusals format d m cells scales) refl z in
+    (not-false _ (t .0), not-false _ (t .1 .0))
 
 -- m rows of d numbers, as facts
 pub record BlockFacts (format d m cells scales : ℕ) : Type 0 where

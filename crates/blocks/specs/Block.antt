@@ -40,15 +40,14 @@ isBlock format d m cells scales =
     && (eqb cells (m * cellBytes format d)
     && eqb scales (m * scaleWords format d))))
 
-abbrev pub blockRefusals : ℕ → ℕ → ℕ → Buffers → List Refusal
-blockRefusals format d m b =
-    (6 when not (hasScores format)) ∷ (7 when not (isBlock format d m (length (b .cells)) (length (b .scales)))) ∷ []
+abbrev pub blockRefusals : ℕ → ℕ → ℕ → ℕ → ℕ → List Refusal
+blockRefusals format d m cells scales = (6 when not (hasScores format)) ∷ (7 when not (isBlock format d m cells scales)) ∷ []
 
 -- each call
 unfoldable pub blockScoresOf : ℕ → List Float → Float → Buffers → List Float → Outcome (List Float)
 blockScoresOf format query x b out =
-    outcome (blockRefusals format (length query) (length out) b) (blockScores format query x b (length out)) out
+    outcome (blockRefusals format (length query) (length out) (length (b .cells)) (length (b .scales))) (blockScores format query x b (length out)) out
 
 unfoldable pub blockSumsOf : ℕ → List Float → Buffers → List Float → Outcome (List Float)
 blockSumsOf format weights b out =
-    outcome (blockRefusals format (length out) (length weights) b) (blockSums format weights b (length out)) out
+    outcome (blockRefusals format (length out) (length weights) (length (b .cells)) (length (b .scales))) (blockSums format weights b (length out)) out

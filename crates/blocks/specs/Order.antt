@@ -1,6 +1,6 @@
 -- Scores and weighted sums of rows: the paper's section Order of float operations.
 -- Each addition and each multiplication is one of IEEE 754 binary32, rounded once.
-use Prim.Native.Nat.{ℕ, _+_, _-_, _*_, _/_, _%_, _^_}
+use Prim.Native.Nat.{ℕ, _+_, _-_, _*_, _/_, _%_}
 use mathlib.Core.Bool.{Bool, cond, _||_}
 use mathlib.Core.List.{List}
 use lib.Dec.{eqb, ltb}
@@ -9,6 +9,7 @@ use lib.Ieee.{Float, nan, binary32, add, mul}
 use Rattle.lists.specs.Chunks.{tab, turns, part}
 use Rattle.numbers.specs.Word.{float}
 use Rattle.numbers.specs.Code.{less8}
+use Rattle.groups.specs.Group.{codeAt}
 use Rattle.rows.specs.Row.{f32At}
 
 -- n terms added from 0.0, term 0 first
@@ -19,9 +20,9 @@ summed n term = turns n (λ i sum. add binary32 sum (term i)) (float 0)
 unfoldable pub f32Dot : List Float → List ℕ → Float
 f32Dot query cells = summed (length query) (λ d. mul binary32 (getD query d nan) (float (f32At cells d)))
 
--- INT4: the code less 8 that begins at bit k of byte i: the low one at bit 0, the high one at bit 4
+-- INT4: the code of a byte less 8, the low one at bit 0, the high one at bit 4
 abbrev pub codeFrom : ℕ → List ℕ → ℕ → Float
-codeFrom k bytes i = less8 (getD bytes i 0 / 2 ^ k % 16)
+codeFrom k bytes i = less8 (codeAt k bytes i)
 
 -- one byte of a group: the query's number i times the low code is added, then its number i + 16 times the high one
 abbrev pub addByte : List Float → List ℕ → ℕ → Float → Float

@@ -1,9 +1,10 @@
 // Blocks: the first positions of one head's block, scored under a query or summed under weights, in the Rust's order of float operations.
-pub(crate) mod codes;
 pub(crate) mod scores;
+pub(crate) mod stored;
 pub(crate) mod sums;
 
 use replies::Reply;
+use replies::number;
 use scores::score_row;
 use shapes::cell_bytes;
 use shapes::of_format;
@@ -13,10 +14,11 @@ ghost use mathlib.Core.Path.{_≡_};
 ghost use lib.ListN.{length, replicate};
 ghost use Rattle.lists.specs.Chunks.{turns};
 ghost use Rattle.numbers.specs.Word.{float};
-ghost use Rattle.replies.specs.Outcome.{answered};
+ghost use Rattle.replies.specs.Reply.{replyNumber};
+ghost use Rattle.replies.specs.Outcome.{lowest, answered};
 ghost use Rattle.rows.specs.Calls.{buffers};
 ghost use Rattle.blocks.specs.Order.{hasScores, added};
-ghost use Rattle.blocks.specs.Block.{blockScores, blockTerm, blockSums, isBlock, blockScoresOf, blockSumsOf};
+ghost use Rattle.blocks.specs.Block.{blockScores, blockTerm, blockSums, isBlock, blockRefusals, blockScoresOf, blockSumsOf};
 ghost use Rattle.blocks.specs.Fits.{Rows};
 
 // Scores as many positions as `out` has places, under a query. The first half of the Rust's `decode_head_attention_f32` and `decode_head_attention_int4`.
@@ -34,14 +36,11 @@ pub fn block_scores(
         ≡ blockScoresOf format (now (query .entry)) scale (buffers (now (cells .entry)) (now (scales .entry))) (now (out .entry))
         ⌝ }
 {
-    if !has_scores(format) {
-        return Reply::Format;
+    let reply = block_reply(format, query.len(), out.len(), cells.len(), scales.len());
+    if number(reply) == 0 {
+        score_rows(format, query, scale, cells, scales, out);
     }
-    if !is_block(format, query.len(), out.len(), cells.len(), scales.len()) {
-        return Reply::Size;
-    }
-    score_rows(format, query, scale, cells, scales, out);
-    Reply::Done
+    reply
 }
 
 // Sums as many positions as there are weights. The second half of the same.
@@ -58,14 +57,11 @@ pub fn block_sums(
         ≡ blockSumsOf format (now (weights .entry)) (buffers (now (cells .entry)) (now (scales .entry))) (now (out .entry))
         ⌝ }
 {
-    if !has_scores(format) {
-        return Reply::Format;
+    let reply = block_reply(format, out.len(), weights.len(), cells.len(), scales.len());
+    if number(reply) == 0 {
+        sum_rows(format, weights, cells, scales, out);
     }
-    if !is_block(format, out.len(), weights.len(), cells.len(), scales.len()) {
-        return Reply::Size;
-    }
-    sum_rows(format, weights, cells, scales, out);
-    Reply::Done
+    reply
 }
 
 // Whether a format has scores and sums.
@@ -73,6 +69,18 @@ pub fn has_scores(format: u32) -> bool
     ensures { λ r. ⌜ r ≡ hasScores format ⌝ }
 {
     if format == 0 { true } else { format == 3 }
+}
+
+fn block_reply(format: u32, d: usize, m: usize, cells: usize, scales: usize) -> Reply
+    ensures { λ r. ⌜ replyNumber r ≡ lowest (blockRefusals format d m cells scales) ⌝ }
+{
+    if !has_scores(format) {
+        return Reply::Format;
+    }
+    if !is_block(format, d, m, cells, scales) {
+        return Reply::Size;
+    }
+    Reply::Done
 }
 
 // Whether the lengths are those of `m` rows of `d` numbers.

@@ -1,7 +1,7 @@
 // The score of one row under a query, in each format that has scores.
-use crate::codes::code_from;
+use crate::stored::code_from;
+use crate::stored::number_at;
 use numbers::words::word_to_f32;
-use rows::word_of_bytes;
 ghost use mathlib.Core.Path.{_≡_};
 ghost use lib.ListN.{length};
 ghost use lib.Ieee.{binary32, mul};
@@ -25,9 +25,7 @@ fn score_f32(query: &[f32], scale: f32, cells: &[u8]) -> f32
     let mut sum = 0.0;
     let mut d = 0;
     while d < query.len() {
-        let a = d * 4;
-        let k = word_of_bytes(cells[a], cells[a + 1], cells[a + 2], cells[a + 3]);
-        sum = sum + query[d] * word_to_f32(k);
+        sum = sum + query[d] * number_at(cells, d);
         d += 1;
     }
     sum * scale

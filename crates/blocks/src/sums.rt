@@ -1,7 +1,7 @@
 // One weighted row added to a head's sums, in each format that has them.
-use crate::codes::code_from;
+use crate::stored::code_from;
+use crate::stored::number_at;
 use numbers::words::word_to_f32;
-use rows::word_of_bytes;
 ghost use mathlib.Core.Path.{_≡_};
 ghost use lib.ListN.{length};
 ghost use lib.Ieee.{binary32, mul};
@@ -25,9 +25,7 @@ fn add_f32(weight: f32, cells: &[u8], out: &mut [f32])
 {
     let mut d = 0;
     while d < out.len() {
-        let a = d * 4;
-        let v = word_of_bytes(cells[a], cells[a + 1], cells[a + 2], cells[a + 3]);
-        out[d] = out[d] + weight * word_to_f32(v);
+        out[d] = out[d] + weight * number_at(cells, d);
         d += 1;
     }
 }

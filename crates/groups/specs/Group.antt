@@ -16,9 +16,12 @@ byteAt numbers scale i = code4 (getD numbers i 0) scale + 16 * code4 (getD numbe
 unfoldable pub packed : List ℕ → Float → List ℕ
 packed numbers scale = tab 16 (byteAt numbers scale)
 
--- what the four bits from bit k of byte i read as, and those of all 16 bytes
+-- the code that begins at bit k of byte i, what it reads as, and those of all 16 bytes
+abbrev pub codeAt : ℕ → List ℕ → ℕ → ℕ
+codeAt k bytes i = getD bytes i 0 / 2 ^ k % 16
+
 abbrev pub numberAt : ℕ → List ℕ → Float → ℕ → ℕ
-numberAt k bytes scale i = word (read4 (getD bytes i 0 / 2 ^ k % 16) scale)
+numberAt k bytes scale i = word (read4 (codeAt k bytes i) scale)
 
 unfoldable pub half : ℕ → List ℕ → Float → List ℕ
 half k bytes scale = tab 16 (numberAt k bytes scale)

@@ -96,7 +96,7 @@ module _ {s : Shape} {l side h given m a b e f : ℕ} (cells scales : List ℕ) 
   scales-in : PlaceIn s l side h m (wordsOf s)
   scales-in = scale-place k (q .side-in) (omega arith)
 
-  accepted : lowest (blockRefusals (s .format) given m block) ≡ 0
+  accepted : lowest (blockRefusals (s .format) given m (length (block .cells)) (length (block .scales))) ≡ 0
   unfolding lowest isBlock
   accepted =
       let i = limits-facts s (k .in-limits) in
@@ -121,7 +121,7 @@ module _ {s : Shape} {l side h given m a b e f : ℕ} (cells scales : List ℕ) 
 
   -- what the block's calls leave
   left-by : (new old : List Float) {n : ℕ} {y : List Float}
-      → record { reply = n; left = y } ≡ outcome (blockRefusals (s .format) given m block) new old → y ≡ new
+      → record { reply = n; left = y } ≡ outcome (blockRefusals (s .format) given m (length (block .cells)) (length (block .scales))) new old → y ≡ new
   left-by new old o = ap (λ (x : Outcome (List Float)). x .left) (o ∙ outcome-done _ new old accepted)
 
 module _ {s : Shape} {l h a b e f : ℕ} (cells scales : List ℕ) where
