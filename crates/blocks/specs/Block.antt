@@ -1,15 +1,14 @@
--- The first m positions of one head's block, row after row: their scores, their sums, and when what is lent is such a block.
+-- The first m positions of one head's block, row after row: their scores and their sums.
 -- The paper's section Order of float operations, with replies 6 and 7.
-use Prim.Native.Nat.{ℕ, _*_, _%_}
-use mathlib.Core.Bool.{Bool, not, _&&_}
+use Prim.Native.Nat.{ℕ, _*_}
+use mathlib.Core.Bool.{not}
 use mathlib.Core.List.{List, [], _∷_}
-use lib.Dec.{eqb, leb}
 use lib.ListN.{length, getD}
 use lib.Ieee.{Float, nan}
 use Rattle.lists.specs.Chunks.{part}
 use Rattle.replies.specs.Outcome.{Refusal, _when_, Outcome, outcome}
-use Rattle.shapes.specs.Shape.{ofFormat, cellBytes, scaleWords}
-use Rattle.rows.specs.Calls.{Buffers}
+use Rattle.shapes.specs.Shape.{cellBytes, scaleWords}
+use Rattle.rows.specs.Calls.{Buffers, rowsFit}
 use Rattle.blocks.specs.Order.{hasScores, rowDot, rowTerm, scoresOf, sumsOf}
 
 -- the cells and the scale words of position p, where a row has d numbers
@@ -31,17 +30,9 @@ blockTerm format weights b d p = rowTerm format (getD weights p nan) (cellsOf fo
 unfoldable pub blockSums : ℕ → List Float → Buffers → ℕ → List Float
 blockSums format weights b d = sumsOf d (length weights) (blockTerm format weights b d)
 
--- the lengths of m rows of d numbers
-unfoldable pub isBlock : ℕ → ℕ → ℕ → ℕ → ℕ → Bool
-isBlock format d m cells scales =
-    leb d 256
-    && (leb m 4096
-    && (eqb (ofFormat format 0 0 0 (d % 32)) 0
-    && (eqb cells (m * cellBytes format d)
-    && eqb scales (m * scaleWords format d))))
-
+-- the refusals of m rows of d numbers
 abbrev pub blockRefusals : ℕ → ℕ → ℕ → ℕ → ℕ → List Refusal
-blockRefusals format d m cells scales = (6 when not (hasScores format)) ∷ (7 when not (isBlock format d m cells scales)) ∷ []
+blockRefusals format d m cells scales = (6 when not (hasScores format)) ∷ (7 when not (rowsFit format d m cells scales)) ∷ []
 
 -- each call
 unfoldable pub blockScoresOf : ℕ → List Float → Float → Buffers → List Float → Outcome (List Float)

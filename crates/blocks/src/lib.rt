@@ -5,9 +5,9 @@ pub(crate) mod sums;
 
 use replies::Reply;
 use replies::number;
+use rows::rows_fit;
 use scores::score_row;
 use shapes::cell_bytes;
-use shapes::of_format;
 use shapes::scale_words;
 use sums::add_row;
 ghost use mathlib.Core.Path.{_≡_};
@@ -18,7 +18,7 @@ ghost use Rattle.replies.specs.Reply.{replyNumber};
 ghost use Rattle.replies.specs.Outcome.{lowest, answered};
 ghost use Rattle.rows.specs.Calls.{buffers};
 ghost use Rattle.blocks.specs.Order.{hasScores, added};
-ghost use Rattle.blocks.specs.Block.{blockScores, blockTerm, blockSums, isBlock, blockRefusals, blockScoresOf, blockSumsOf};
+ghost use Rattle.blocks.specs.Block.{blockScores, blockTerm, blockSums, blockRefusals, blockScoresOf, blockSumsOf};
 ghost use Rattle.blocks.specs.Fits.{Rows};
 
 // Scores as many positions as `out` has places, under a query. The first half of the Rust's `decode_head_attention_f32` and `decode_head_attention_int4`.
@@ -77,29 +77,10 @@ fn block_reply(format: u32, d: usize, m: usize, cells: usize, scales: usize) -> 
     if !has_scores(format) {
         return Reply::Format;
     }
-    if !is_block(format, d, m, cells, scales) {
+    if !rows_fit(format, d, m, cells, scales) {
         return Reply::Size;
     }
     Reply::Done
-}
-
-// Whether the lengths are those of `m` rows of `d` numbers.
-fn is_block(format: u32, d: usize, m: usize, cells: usize, scales: usize) -> bool
-    ensures { λ r. ⌜ r ≡ isBlock format d m cells scales ⌝ }
-{
-    if 256 < d {
-        return false;
-    }
-    if 4096 < m {
-        return false;
-    }
-    if of_format(format, 0, 0, 0, d % 32) != 0 {
-        return false;
-    }
-    if cells != m * cell_bytes(format, d as u32) {
-        return false;
-    }
-    scales == m * scale_words(format, d as u32)
 }
 
 fn score_rows(format: u32, query: &[f32], scale: f32, cells: &[u8], scales: &[u32], out: &mut [f32])

@@ -2,25 +2,25 @@
 -- It holds since each of its rows is the one at the paper's place.
 use mathlib.Core.Path.{_≡_, refl, ap, _∙_}
 use mathlib.Core.List.{List}
-use Prim.Native.Nat.{ℕ, _-_, _*_, _≤_, _<_}
+use Prim.Native.Nat.{ℕ, _-_, _≤_, _<_}
 use native.Mathlib.Nat.{zero-mul}
 use native.Mathlib.Omega.{arith}
 use lib.ListN.{length}
 use lib.Ieee.{Float}
-use borrow.Author.Tests.{le-leb, eq-eqb}
 use Rattle.lists.specs.Chunks.{part}
 use Rattle.replies.specs.Outcome.{Outcome, lowest, outcome}
 use Rattle.replies.proofs.Refusals.{outcome-done}
 use Rattle.shapes.specs.declared.Shape.{Shape}
-use Rattle.shapes.specs.Shape.{headSize, bytesOf, wordsOf}
+use Rattle.shapes.specs.Shape.{bytesOf, wordsOf}
 use Rattle.shapes.proofs.ShapeLaws.{limits-facts}
 use Rattle.layers.specs.Layer.{place}
 use Rattle.layers.specs.Calls.{placeOf}
 use Rattle.layers.proofs.SizeLaws.{cells-most, words-most}
 use Rattle.layers.proofs.SpanLaws.{PlaceIn, placed, place-in, place-small, block-length, block-row}
 use Rattle.rows.specs.Calls.{Buffers, buffers}
+use Rattle.rows.proofs.FitLaws.{RowsFit, facts-fit}
 use Rattle.cells.specs.Calls.{cellsAt, scalesAt}
-use Rattle.blocks.specs.Block.{cellsOf, scalesOf, blockScores, blockSums, isBlock, blockRefusals, blockScoresOf, blockSumsOf}
+use Rattle.blocks.specs.Block.{cellsOf, scalesOf, blockScores, blockSums, blockRefusals, blockScoresOf, blockSumsOf}
 use Rattle.blocks.proofs.OrderLaws.{scores-same, sums-same}
 use Rattle.heads.specs.Calls.{scoresAt, termAt, sumsAt}
 use Rattle.heads.specs.Fits.{InHead}
@@ -96,22 +96,21 @@ module _ {s : Shape} {l side h given m a b e f : ℕ} (cells scales : List ℕ) 
   scales-in : PlaceIn s l side h m (wordsOf s)
   scales-in = scale-place k (q .side-in) (omega arith)
 
-  accepted : lowest (blockRefusals (s .format) given m (length (block .cells)) (length (block .scales))) ≡ 0
-  unfolding lowest isBlock
-  accepted =
+  rows-fit : RowsFit (s .format) given m (length (block .cells)) (length (block .scales))
+  rows-fit =
       let i = limits-facts s (k .in-limits) in
-      let n = k .size in
-      rw (
-        k .scored,
-        block-length cells-in cells (q .cells-from) (q .cells-to) (k .cell-size),
-        block-length scales-in scales (q .scales-from) (q .scales-to) (k .scale-size),
-        n,
-        le-leb (headSize s) 256 (i .size-in .1),
-        le-leb m 4096 (omega (arith, k .span, i .capacity-in)),
-        i .whole-groups,
-        eq-eqb (m * bytesOf s) (m * bytesOf s) refl,
-        eq-eqb (m * wordsOf s) (m * wordsOf s) refl,
-      )
+      record {
+        known = i .format-in;
+        small = rw (k .size) (i .size-in .1);
+        few = omega (arith, k .span, i .capacity-in);
+        whole = rw (k .size) (i .whole-groups);
+        cell-bytes = rw (k .size) (block-length cells-in cells (q .cells-from) (q .cells-to) (k .cell-size));
+        scale-words = rw (k .size) (block-length scales-in scales (q .scales-from) (q .scales-to) (k .scale-size));
+      }
+
+  accepted : lowest (blockRefusals (s .format) given m (length (block .cells)) (length (block .scales))) ≡ 0
+  unfolding lowest
+  accepted = rw (k .scored, facts-fit rows-fit)
 
   cells-there : (p : ℕ) → p < m → cellsOf (s .format) given block p ≡ cellsAt s l side h p (buffers cells scales)
   cells-there p u = rw (k .size) (block-row cells-in cells (q .cells-from) (q .cells-to) p u)

@@ -1,5 +1,5 @@
 -- Rows written and read: the paper's section Shape and room, for what a row is, and reply 7 of its section Replies.
-use Prim.Native.Nat.{ℕ, _%_}
+use Prim.Native.Nat.{ℕ, _*_, _%_}
 use mathlib.Core.Bool.{Bool, not, _&&_}
 use mathlib.Core.List.{List, [], _∷_}
 use lib.Dec.{eqb, leb}
@@ -16,16 +16,19 @@ pub record Buffers : Type 0 where
 abbrev pub buffers : List ℕ → List ℕ → Buffers
 buffers c s = record { cells = c; scales = s }
 
--- a format's d numbers, no more than a head has, in whole groups for INT4, with their B cells and S scale words
-unfoldable pub rowFits : ℕ → ℕ → ℕ → ℕ → Bool
-rowFits format d cells scales =
+-- m rows of a format, each of d numbers, no more than a head has, in whole groups for INT4: their B cells and S scale words
+unfoldable pub rowsFit : ℕ → ℕ → ℕ → ℕ → ℕ → Bool
+rowsFit format d m cells scales =
     leb format 3
     && (leb d 256
+    && (leb m 4096
     && (eqb (ofFormat format 0 0 0 (d % 32)) 0
-    && (eqb cells (cellBytes format d) && eqb scales (scaleWords format d))))
+    && (eqb cells (m * cellBytes format d)
+    && eqb scales (m * scaleWords format d)))))
 
+-- one row
 abbrev pub rowRefusals : ℕ → ℕ → Buffers → List Refusal
-rowRefusals format d b = (7 when not (rowFits format d (length (b .cells)) (length (b .scales)))) ∷ []
+rowRefusals format d b = (7 when not (rowsFit format d 1 (length (b .cells)) (length (b .scales)))) ∷ []
 
 -- each call
 unfoldable pub putRowOf : ℕ → List ℕ → Buffers → Outcome Buffers

@@ -23,7 +23,7 @@ ghost use Rattle.numbers.specs.Scale.{scaleOf};
 ghost use Rattle.groups.specs.Group.{packed};
 ghost use Rattle.rows.specs.Row.{little, fromLittle, f32Cells, f32Numbers, bf16Cells, bf16Numbers, int8Cells, int8Scales, int8Numbers};
 ghost use Rattle.rows.specs.Row.{int4Cells, int4Scales, int4Numbers};
-ghost use Rattle.rows.specs.Calls.{buffers, rowFits, putRowOf, getRowOf};
+ghost use Rattle.rows.specs.Calls.{buffers, rowsFit, putRowOf, getRowOf};
 
 // Writes the cells and the scale words of a run.
 pub fn put_row(format: u32, run: &[u32], cells: &mut [u8], scales: &mut [u32]) -> Reply
@@ -33,7 +33,7 @@ pub fn put_row(format: u32, run: &[u32], cells: &mut [u8], scales: &mut [u32]) -
         ≡ putRowOf format (now (run .entry)) (buffers (now (cells .entry)) (now (scales .entry)))
         ⌝ }
 {
-    if !row_fits(format, run.len(), cells.len(), scales.len()) {
+    if !rows_fit(format, run.len(), 1, cells.len(), scales.len()) {
         return Reply::Size;
     }
     match format {
@@ -49,7 +49,7 @@ pub fn put_row(format: u32, run: &[u32], cells: &mut [u8], scales: &mut [u32]) -
 pub fn get_row(format: u32, cells: &[u8], scales: &[u32], out: &mut [u32]) -> Reply
     ensures { λ r. ⌜ answered r (now (out .exit)) ≡ getRowOf format (buffers (now (cells .entry)) (now (scales .entry))) (now (out .entry)) ⌝ }
 {
-    if !row_fits(format, out.len(), cells.len(), scales.len()) {
+    if !rows_fit(format, out.len(), 1, cells.len(), scales.len()) {
         return Reply::Size;
     }
     match format {
@@ -68,9 +68,9 @@ pub fn word_of_bytes(b0: u8, b1: u8, b2: u8, b3: u8) -> u32
     word_from(half_from(b0, b1), half_from(b2, b3))
 }
 
-// Whether `d` numbers, their cells and their scale words make a row of the format.
-fn row_fits(format: u32, d: usize, cells: usize, scales: usize) -> bool
-    ensures { λ r. ⌜ r ≡ rowFits format d cells scales ⌝ }
+// Whether the lengths are those of `m` rows of `d` numbers.
+pub fn rows_fit(format: u32, d: usize, m: usize, cells: usize, scales: usize) -> bool
+    ensures { λ r. ⌜ r ≡ rowsFit format d m cells scales ⌝ }
 {
     if 3 < format {
         return false;
@@ -78,13 +78,16 @@ fn row_fits(format: u32, d: usize, cells: usize, scales: usize) -> bool
     if 256 < d {
         return false;
     }
+    if 4096 < m {
+        return false;
+    }
     if of_format(format, 0, 0, 0, d % 32) != 0 {
         return false;
     }
-    if cells != cell_bytes(format, d as u32) {
+    if cells != m * cell_bytes(format, d as u32) {
         return false;
     }
-    scales == scale_words(format, d as u32)
+    scales == m * scale_words(format, d as u32)
 }
 
 fn put_f32(run: &[u32], cells: &mut [u8])

@@ -15,25 +15,25 @@ use Rattle.rows.proofs.FitLaws.{RowFits, fits-facts, f32-fits, bf16-fit
 use Rattle.rows.proofs.get_row.Statement.{statement}
 use Rattle.rows.proofs.get_row.Tie as tie
 
-row-fits-requires : tie.Need-row-fits-requires
-row-fits-requires c κs = search needs
+rows-fit-requires : tie.Need-rows-fit-requires
+rows-fit-requires c κs = search needs
 
 returns : tie.Need-returns
 unfolding getRowOf outcome lowest
-returns c = rw (failed (c .before .row-fits .ensures) (c .if1 .taken))
+returns c = rw (failed (c .before .rows-fit .ensures) (c .if1 .taken))
 
 -- past the test the row fits, and the call is done
 fits : (c : tie.Else1)
     → let a = c .before .before .before .before .before .args in
     RowFits (a .format) (length (a .out .now)) (length (a .cells .now)) (length (a .scales .now))
-fits c = fits-facts (passed (c .before .row-fits .ensures) (c .if1 .left))
+fits c = fits-facts (passed (c .before .rows-fit .ensures) (c .if1 .left))
 
 done : (c : tie.Else1) {x : List ℕ}
     → let a = c .before .before .before .before .before .args in
     x ≡ rowNumbers (a .format) (length (a .out .now)) (a .cells .now) (a .scales .now)
     → record { reply = 0; left = x } ≡ getRowOf (a .format) (buffers (a .cells .now) (a .scales .now)) (a .out .now)
 unfolding getRowOf
-done c = test-done 7 _ _ (passed (c .before .row-fits .ensures) (c .if1 .left))
+done c = test-done 7 _ _ (passed (c .before .rows-fit .ensures) (c .if1 .left))
 
 get-f32-requires : tie.Need-get-f32-requires
 get-f32-requires c κs = f32-fits (rw (c .before .match .keys1) at (fits (c .before .before))) .0
@@ -83,7 +83,7 @@ pub get-row-spec : {M : Type 1} → statement M
 get-row-spec =
     tie.close
     (tie.spec
-    row-fits-requires
+    rows-fit-requires
     returns
     get-f32-requires
     get-bf16-requires

@@ -16,18 +16,18 @@ use Rattle.rows.proofs.RowLaws.{empty}
 use Rattle.rows.proofs.put_row.Statement.{statement}
 use Rattle.rows.proofs.put_row.Tie as tie
 
-row-fits-requires : tie.Need-row-fits-requires
-row-fits-requires c κs = search needs
+rows-fit-requires : tie.Need-rows-fit-requires
+rows-fit-requires c κs = search needs
 
 returns : tie.Need-returns
 unfolding putRowOf outcome lowest
-returns c = rw (failed (c .before .row-fits .ensures) (c .if1 .taken))
+returns c = rw (failed (c .before .rows-fit .ensures) (c .if1 .taken))
 
 -- past the test the row fits, and the call is done
 fits : (c : tie.Else1)
     → let a = c .before .before .before .before .before .args in
     RowFits (a .format) (length (a .run .now)) (length (a .cells .now)) (length (a .scales .now))
-fits c = fits-facts (passed (c .before .row-fits .ensures) (c .if1 .left))
+fits c = fits-facts (passed (c .before .rows-fit .ensures) (c .if1 .left))
 
 done : (c : tie.Else1) {x y : List ℕ}
     → let a = c .before .before .before .before .before .args in
@@ -35,7 +35,7 @@ done : (c : tie.Else1) {x y : List ℕ}
     → y ≡ rowScales (a .format) (a .run .now)
     → record { reply = 0; left = buffers x y } ≡ putRowOf (a .format) (a .run .now) (buffers (a .cells .now) (a .scales .now))
 unfolding putRowOf
-done c p q = test-done 7 _ _ (passed (c .before .row-fits .ensures) (c .if1 .left)) (rw (p, q))
+done c p q = test-done 7 _ _ (passed (c .before .rows-fit .ensures) (c .if1 .left)) (rw (p, q))
 
 put-f32-requires : tie.Need-put-f32-requires
 put-f32-requires c κs = f32-fits (rw (c .before .match .keys1) at (fits (c .before .before))) .0
@@ -103,7 +103,7 @@ pub put-row-spec : {M : Type 1} → statement M
 put-row-spec =
     tie.close
     (tie.spec
-    row-fits-requires
+    rows-fit-requires
     returns
     put-f32-requires
     put-bf16-requires

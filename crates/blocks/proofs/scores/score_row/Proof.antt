@@ -1,19 +1,19 @@
 -- The format's test is the definition's, and each side knows the lengths that its format has.
 use borrow.Author.Tests.{eq-eqb, ne-eqb}
 use Rattle.blocks.specs.Order.{rowDot}
-use Rattle.blocks.proofs.BlockLaws.{block-facts, f32-row, int4-row}
+use Rattle.blocks.proofs.BlockLaws.{f32-row, int4-row}
 use Rattle.blocks.proofs.scores.score_row.Statement.{statement}
 use Rattle.blocks.proofs.scores.score_row.Tie as tie
 
 score-f32-requires : tie.Need-score-f32-requires
-score-f32-requires c κs = f32-row (block-facts _ _ _ _ _ (c .before .before .before .before .pre)) (c .if1 .taken)
+score-f32-requires c κs = f32-row _ _ _ _ (c .before .before .before .before .pre) (c .if1 .taken)
 
 returns : tie.Need-returns
 unfolding rowDot
 returns c = rw (eq-eqb _ _ (c .before .if1 .taken)) (c .score-f32 .ensures)
 
 score-int4-requires : tie.Need-score-int4-requires
-score-int4-requires c κs = int4-row (block-facts _ _ _ _ _ (c .before .before .before .before .pre)) (c .if1 .left)
+score-int4-requires c κs = int4-row _ _ _ _ (c .before .before .before .before .pre) (c .if1 .left)
 
 returns-2 : tie.Need-returns-2
 unfolding rowDot

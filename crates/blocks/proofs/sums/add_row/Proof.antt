@@ -2,12 +2,12 @@
 use borrow.Author.Needs.{needs}
 use borrow.Author.Tests.{eq-eqb, ne-eqb}
 use Rattle.blocks.specs.Order.{rowTerm, added}
-use Rattle.blocks.proofs.BlockLaws.{block-facts, f32-row, int4-row}
+use Rattle.blocks.proofs.BlockLaws.{f32-row, int4-row}
 use Rattle.blocks.proofs.sums.add_row.Statement.{statement}
 use Rattle.blocks.proofs.sums.add_row.Tie as tie
 
 add-f32-requires : tie.Need-add-f32-requires
-add-f32-requires c κs = f32-row (block-facts _ _ _ _ _ (c .before .before .before .before .before .pre)) (c .before .if1 .taken)
+add-f32-requires c κs = f32-row _ _ _ _ (c .before .before .before .before .before .pre) (c .before .if1 .taken)
 
 same-length : tie.Need-same-length
 same-length c = search needs
@@ -17,7 +17,7 @@ unfolding rowTerm added
 returns c = rw (eq-eqb _ _ (c .before .before .before .before .if1 .taken)) (c .before .before .add-f32 .ensures)
 
 add-int4-requires : tie.Need-add-int4-requires
-add-int4-requires c κs = int4-row (block-facts _ _ _ _ _ (c .before .before .before .before .before .pre)) (c .before .if1 .left)
+add-int4-requires c κs = int4-row _ _ _ _ (c .before .before .before .before .before .pre) (c .before .if1 .left)
 
 same-length-2 : tie.Need-same-length-2
 same-length-2 c = search needs
