@@ -9,13 +9,13 @@ use native.Mathlib.Omega.{arith}
 use native.Mathlib.Decide.{decLt}
 use lib.ListN.{length}
 use Rattle.lists.specs.Chunks.{part}
-use Rattle.lists.proofs.Part.{room, part-part, part-length}
+use Rattle.lists.proofs.Part.{room, part-part, part-length, part-chunks, chunks-ext}
 use Rattle.lists.proofs.At.{at-part, at-part-before, at-part-after}
 use Rattle.lists.proofs.Each.{each-part}
 use Rattle.shapes.specs.declared.Shape.{Shape}
 use Rattle.shapes.specs.Shape.{total}
 use Rattle.layers.specs.Layer.{blockSize, sideSize, layerSize, put, putSide, putLayer, written, place}
-use Rattle.layers.proofs.SizeLaws.{layer-in}
+use Rattle.layers.proofs.SizeLaws.{total-layers, layer-in}
 use Rattle.layers.proofs.LayerLaws.{LayerRows, put-keeps, side-keeps, layer-keeps, put-there, put-beside}
 
 -- the paper's place, from the layer inwards
@@ -147,3 +147,18 @@ module _ (b : ℕ) {s : Shape} {l l′ side h p q n : ℕ} {rows : ℕ → ℕ �
   pub written-elsewhere : (l′ ≢ l) ⊎ ((p < q) ⊎ (q + n ≤ p))
       → part (place b s l′ side h p) b (written b s l q n rows buf) ≡ part (place b s l′ side h p) b buf
   written-elsewhere = elsewhere (decLt l′ l) (decLt l l′)
+
+-- buffers with the same row at every place are the same
+pub places-same : (b : ℕ) (s : Shape) (buf buf′ : List ℕ) → length buf ≡ total b s → length buf′ ≡ total b s
+    → ((l side h p : ℕ) → Place s l side h p → part (place b s l side h p) b buf ≡ part (place b s l side h p) b buf′) → buf ≡ buf′
+places-same b s buf buf′ w w′ same =
+    chunks-ext (layerSize b s) (s .layers) buf buf′ (w ∙ total-layers b s) (w′ ∙ total-layers b s)
+    (λ l u.
+    part-chunks (l * layerSize b s) (sideSize b s) 2 buf buf′
+    (λ side v.
+    part-chunks (l * layerSize b s + side * sideSize b s) (blockSize b s) (s .heads) buf buf′
+    (λ h x.
+    part-chunks (l * layerSize b s + side * sideSize b s + h * blockSize b s) b (s .capacity) buf buf′
+    (λ p y.
+    let e : l * layerSize b s + side * sideSize b s + h * blockSize b s + p * b ≡ place b s l side h p = omega (arith, place-nested b s l side h p) in
+    rw e (same l side h p (record { layer-in = u; side-in = v; head-in = x; position-in = y }))))))

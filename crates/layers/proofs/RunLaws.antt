@@ -25,6 +25,14 @@ pub run-lent : (s : Shape) (numbers : List ℕ) (h i : ℕ) {e : ℕ} → i * wi
     → part (i * width s + h * headSize s) (e - (i * width s + h * headSize s)) numbers ≡ headNumbers s numbers h i
 run-lent s numbers h i {e} q = let d : e - (i * width s + h * headSize s) ≡ headSize s = omega arith in rw d
 
+-- keys and values that have n numbers each have n on either side
+either : (t : Bool) (keys values : List ℕ) {n : ℕ} → length keys ≡ n → length values ≡ n → length (cond t keys values) ≡ n
+either true keys values k v = k
+either false keys values k v = v
+
+pub side-size : (keys values : List ℕ) {n : ℕ} → length keys ≡ n → length values ≡ n → (side : ℕ) → length (sideOf keys values side) ≡ n
+side-size keys values k v side = either (eqb side 0) keys values k v
+
 module _ (s : Shape) (n : ℕ) (inside : limits s ≡ true) where
   module _ (numbers : List ℕ) (e : length numbers ≡ n * width s) where
     head-length : (h i : ℕ) → h < s .heads → i < n → length (headNumbers s numbers h i) ≡ headSize s
@@ -41,12 +49,8 @@ module _ (s : Shape) (n : ℕ) (inside : limits s ≡ true) where
 
   -- of both sides
   module _ (keys values : List ℕ) (k : length keys ≡ n * width s) (v : length values ≡ n * width s) where
-    either : (t : Bool) → length (cond t keys values) ≡ n * width s
-    either true = k
-    either false = v
-
     pub cell-layer : LayerRows (bytesOf s) s n (λ side. cellRow s (sideOf keys values side))
-    cell-layer side w = cell-rows (sideOf keys values side) (either (eqb side 0))
+    cell-layer side w = cell-rows (sideOf keys values side) (side-size keys values k v side)
 
     pub scale-layer : LayerRows (wordsOf s) s n (λ side. scaleRow s (sideOf keys values side))
-    scale-layer side w = scale-rows (sideOf keys values side) (either (eqb side 0))
+    scale-layer side w = scale-rows (sideOf keys values side) (side-size keys values k v side)

@@ -80,7 +80,7 @@ module _ {A : Type 0} where
   pub part-next : (k i : ℕ) (l : List A) → part (suc i * k) k l ≡ part (i * k) k (drop k l)
   part-next k i l = rw (suc-mul, add-comm, ← drop-drop)
 
-  -- lists with n equal chunks begin alike, and are equal where that is all they have
+  -- lists with n equal chunks begin alike
   pub chunks-take : (k n : ℕ) (l l′ : List A)
       → ((i : ℕ) → i < n → part (i * k) k l ≡ part (i * k) k l′) → take (n * k) l ≡ take (n * k) l′
   chunks-take k zero l l′ e = rw zero-mul
@@ -89,6 +89,12 @@ module _ {A : Type 0} where
       let b = chunks-take k n (drop k l) (drop k l′) (λ i w. rw (part-next k i l, part-next k i l′) at (e (suc i) (suc-le-suc w))) in
       rw (suc-mul, add-comm (n * k) k, take-add k (n * k) l, take-add, a, b)
 
+  -- and so do parts of n equal chunks, wherever they begin
+  pub part-chunks : (a k n : ℕ) (l l′ : List A)
+      → ((i : ℕ) → i < n → part (a + i * k) k l ≡ part (a + i * k) k l′) → part a (n * k) l ≡ part a (n * k) l′
+  part-chunks a k n l l′ e = chunks-take k n (drop a l) (drop a l′) (λ i w. rw (drop-drop (i * k) a l, drop-drop (i * k) a l′) (e i w))
+
+  -- and are equal where that is all they have
   pub chunks-ext : (k n : ℕ) (l l′ : List A) → length l ≡ n * k → length l′ ≡ n * k
       → ((i : ℕ) → i < n → part (i * k) k l ≡ part (i * k) k l′) → l ≡ l′
   chunks-ext k n l l′ h h′ e = sym (take-all (n * k) l (omega arith)) ∙ chunks-take k n l l′ e ∙ take-all (n * k) l′ (omega arith)

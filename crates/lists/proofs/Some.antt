@@ -31,6 +31,12 @@ some-none (suc n) i p h b =
     let s = neither (some n p) (p n) h in
     last n i p (eqb i n) refl b (s .1) (some-none n i p (s .0))
 
+-- where it does not hold of each, it holds of none
+pub some-never : (n : ℕ) (p : ℕ → Bool) → ((i : ℕ) → i < n → p i ≡ false) → some n p ≡ false
+unfolding some turns
+some-never zero p h = refl
+some-never (suc n) p h = rw (some-never n p (λ i b. h i (omega arith)), h n (omega arith))
+
 -- where it holds of i, it holds of one
 found : (n i : ℕ) (p : ℕ → Bool) → i < n → p i ≡ true → (t : Bool) → some n p ≡ t → some n p ≡ true
 found n i p b e true h = h
