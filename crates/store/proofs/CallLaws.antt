@@ -34,24 +34,28 @@ module _ (r : Record) (b : Buffers) (good : lowest (storeRefusals r b) ≡ 0) wh
   same : (a : List Refusal) → lowest (storeRefusals r b ++ a) ≡ lowest (room (r .shape) b ++ a)
   same a = passed-before (storeRefusals r b) a (lowest-none 0 (storeRefusals r b) refl good) ∙ sym (passed-before (room (r .shape) b) a (room-passed r b good))
 
-  -- appending
-  module _ (l : ℕ) (keys values : List ℕ) {n : ℕ} {x : Buffers}
-      (inner : record { reply = n; left = x } ≡ appendRowsOf (r .shape) l (lengthOf r l) keys values b) where
+  -- appending to a layer that has `held` positions
+  module _ (l : ℕ) (keys values : List ℕ) {held n : ℕ} {x : Buffers} (e : held ≡ lengthOf r l)
+      (inner : record { reply = n; left = x } ≡ appendRowsOf (r .shape) l held keys values b) where
+    after-length : record { reply = n; left = x } ≡ appendRowsOf (r .shape) l (lengthOf r l) keys values b
+    after-length = rw e at inner
+
     pub append-refused : (n ≡ 0 → ⊥) → record { reply = n; left = store r x } ≡ appendOf r b l keys values
     unfolding appendOf appendRowsOf
-    append-refused h = let w = refused-within _ _ (same (appendRefusals (r .shape) l (lengthOf r l) (length keys) (length values))) _ _ _ _ inner h in rw (w .1) (sym (w .0))
+    append-refused h =
+        let w = refused-within _ _ (same (appendRefusals (r .shape) l (lengthOf r l) (length keys) (length values))) _ _ _ _ after-length h in rw (w .1) (sym (w .0))
 
-    pub append-done : n ≡ 0
-        → record { reply = n; left = store (withLength r l (lengthOf r l + positions (r .shape) (length keys))) x } ≡ appendOf r b l keys values
+    pub append-done : n ≡ 0 → record { reply = n; left = store (withLength r l (held + positions (r .shape) (length keys))) x } ≡ appendOf r b l keys values
     unfolding appendOf appendRowsOf
-    append-done h = let w = done-within _ _ (same (appendRefusals (r .shape) l (lengthOf r l) (length keys) (length values))) _ _ _ _ inner h in rw (w .1) (sym (w .0))
+    append-done h =
+        let w = done-within _ _ (same (appendRefusals (r .shape) l (lengthOf r l) (length keys) (length values))) _ _ _ _ after-length h in rw (w .1, e) (sym (w .0))
 
-    pub append-grows : n ≡ 0 → Grows r l (lengthOf r l) (length keys)
+    pub append-grows : n ≡ 0 → Grows r l held (length keys)
     unfolding appendRowsOf
     append-grows h =
         let s = sound-store r b good in
         let w = sound-limits r s .layers-in in
-        let z = lowest-none 3 (appendRefusals (r .shape) l (lengthOf r l) (length keys) (length values)) refl
+        let z = lowest-none 3 (appendRefusals (r .shape) l held (length keys) (length values)) refl
         (sym (passed-before (room (r .shape) b) _ (room-passed r b good)) ∙ sym (given-number _ _ _ inner) ∙ h) in
         let t = ltb-true l (r .shape .layers) (not-false _ (z .0)) in
         record {
@@ -77,22 +81,26 @@ module _ (r : Record) (b : Buffers) (good : lowest (storeRefusals r b) ≡ 0) wh
       ∙ not-over l a (hasLayer (r .shape) l) refl
       ∙ sym (passed-before (room (r .shape) b) _ (room-passed r b good))
 
-  -- truncating
-  module _ (l t : ℕ) {n : ℕ} {x : Buffers} (inner : record { reply = n; left = x } ≡ removeRowsOf (r .shape) l (lengthOf r l) t b) where
+  -- truncating a layer that has `held` positions
+  module _ (l t : ℕ) {held n : ℕ} {x : Buffers} (e : held ≡ lengthOf r l)
+      (inner : record { reply = n; left = x } ≡ removeRowsOf (r .shape) l held t b) where
+    to-length : record { reply = n; left = x } ≡ removeRowsOf (r .shape) l (lengthOf r l) t b
+    to-length = rw e at inner
+
     pub truncate-refused : (n ≡ 0 → ⊥) → record { reply = n; left = store r x } ≡ truncateOf r b l t
     unfolding truncateOf removeRowsOf
-    truncate-refused h = let w = refused-within _ _ (same-over l []) _ _ _ _ inner h in rw (w .1) (sym (w .0))
+    truncate-refused h = let w = refused-within _ _ (same-over l []) _ _ _ _ to-length h in rw (w .1) (sym (w .0))
 
-    pub truncate-done : n ≡ 0 → record { reply = n; left = store (withLength r l (min (lengthOf r l) t)) x } ≡ truncateOf r b l t
+    pub truncate-done : n ≡ 0 → record { reply = n; left = store (withLength r l (min held t)) x } ≡ truncateOf r b l t
     unfolding truncateOf removeRowsOf
-    truncate-done h = let w = done-within _ _ (same-over l []) _ _ _ _ inner h in rw (w .1) (sym (w .0))
+    truncate-done h = let w = done-within _ _ (same-over l []) _ _ _ _ to-length h in rw (w .1, e) (sym (w .0))
 
     pub truncate-in-record : n ≡ 0 → l < 128
     unfolding removeRowsOf
     truncate-in-record h =
         let w = sound-limits r (sound-store r b good) .layers-in in
         let z = lowest-none 3 (removeRefusals (r .shape) l) refl
-        (sym (passed-before (storeRefusals r b) _ (lowest-none 0 (storeRefusals r b) refl good)) ∙ same-over l [] ∙ sym (given-number _ _ _ inner) ∙ h) in
+        (sym (passed-before (storeRefusals r b) _ (lowest-none 0 (storeRefusals r b) refl good)) ∙ same-over l [] ∙ sym (given-number _ _ _ to-length) ∙ h) in
         omega (arith, ltb-true l (r .shape .layers) (not-false _ (z .0)))
 
   -- reading

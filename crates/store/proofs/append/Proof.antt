@@ -39,16 +39,14 @@ returns-2 c =
     let a = c .before .before .before .before .before .before .before .before .before .before .before .before .before .before .before .before .before .args in
     let b = buffers (a .cells .now) (a .scales .now) in
     let good = still-passed (c .before .before .before .before .before .before .before .before .before .before .before .number .ensures) (c .before .before .before .before .before .before .before .before .before .before .before .before .store-reply .ensures) (c .before .before .before .before .before .before .before .before .before .before .if1 .left) in
-    let inner = rw (c .before .before .before .before .before .before .before .before .before .length-of .ensures) at (c .before .before .before .before .before .before .append-rows .ensures) in
-    append-refused (a .«record») b good (a .layer) (a .keys .now) (a .values .now) inner (λ z. c .if2 .taken (c .before .number2 .ensures ∙ z))
+    append-refused (a .«record») b good (a .layer) (a .keys .now) (a .values .now) (c .before .before .before .before .before .before .before .before .before .length-of .ensures) (c .before .before .before .before .before .before .append-rows .ensures) (λ z. c .if2 .taken (c .before .number2 .ensures ∙ z))
 
 grown-requires : tie.Need-grown-requires
 grown-requires c κs =
     let a = c .before .before .before .before .before .before .before .before .before .before .before .before .before .before .before .before .before .args in
     let b = buffers (a .cells .now) (a .scales .now) in
     let good = still-passed (c .before .before .before .before .before .before .before .before .before .before .before .number .ensures) (c .before .before .before .before .before .before .before .before .before .before .before .before .store-reply .ensures) (c .before .before .before .before .before .before .before .before .before .before .if1 .left) in
-    let inner = rw (c .before .before .before .before .before .before .before .before .before .length-of .ensures) at (c .before .before .before .before .before .before .append-rows .ensures) in
-    rw (c .before .before .before .before .before .before .before .before .before .length-of .ensures) (append-grows (a .«record») b good (a .layer) (a .keys .now) (a .values .now) inner (sym (c .before .number2 .ensures) ∙ c .if2 .left))
+    append-grows (a .«record») b good (a .layer) (a .keys .now) (a .values .now) (c .before .before .before .before .before .before .before .before .before .length-of .ensures) (c .before .before .before .before .before .before .append-rows .ensures) (sym (c .before .number2 .ensures) ∙ c .if2 .left)
 
 same-length-3 : tie.Need-same-length-3
 same-length-3 c = search needs
@@ -61,9 +59,8 @@ returns-3 c =
     let a = c .before .before .before .before .before .before .before .before .before .before .before .before .before .before .before .before .before .before .args in
     let b = buffers (a .cells .now) (a .scales .now) in
     let good = still-passed (c .before .before .before .before .before .before .before .before .before .before .before .before .number .ensures) (c .before .before .before .before .before .before .before .before .before .before .before .before .before .store-reply .ensures) (c .before .before .before .before .before .before .before .before .before .before .before .if1 .left) in
-    let inner = rw (c .before .before .before .before .before .before .before .before .before .before .length-of .ensures) at (c .before .before .before .before .before .before .before .append-rows .ensures) in
-    rw (c .grown .ensures, c .before .before .before .before .before .before .before .before .before .before .length-of .ensures)
-    (append-done (a .«record») b good (a .layer) (a .keys .now) (a .values .now) inner (sym (c .before .before .number2 .ensures) ∙ c .before .if2 .left))
+    rw (c .grown .ensures)
+    (append-done (a .«record») b good (a .layer) (a .keys .now) (a .values .now) (c .before .before .before .before .before .before .before .before .before .before .length-of .ensures) (c .before .before .before .before .before .before .before .append-rows .ensures) (sym (c .before .before .number2 .ensures) ∙ c .before .if2 .left))
 
 pub append-spec : {M : Type 1} → statement M
 append-spec =

@@ -39,8 +39,7 @@ returns-2 c =
     let a = c .before .before .before .before .before .before .before .before .before .before .before .before .before .before .before .args in
     let b = buffers (a .cells .now) (a .scales .now) in
     let good = still-passed (c .before .before .before .before .before .before .before .before .before .before .before .number .ensures) (c .before .before .before .before .before .before .before .before .before .before .before .before .store-reply .ensures) (c .before .before .before .before .before .before .before .before .before .before .if1 .left) in
-    let inner = rw (c .before .before .before .before .before .before .before .before .before .length-of .ensures) at (c .before .before .before .before .before .before .remove-rows .ensures) in
-    truncate-refused (a .«record») b good (a .layer) (a .t) inner (λ z. c .if2 .taken (c .before .number2 .ensures ∙ z))
+    truncate-refused (a .«record») b good (a .layer) (a .t) (c .before .before .before .before .before .before .before .before .before .length-of .ensures) (c .before .before .before .before .before .before .remove-rows .ensures) (λ z. c .if2 .taken (c .before .number2 .ensures ∙ z))
 
 smaller-requires : tie.Need-smaller-requires
 smaller-requires c κs = search needs
@@ -50,8 +49,7 @@ with-length-requires c κs =
     let a = c .before .before .before .before .before .before .before .before .before .before .before .before .before .before .before .before .args in
     let b = buffers (a .cells .now) (a .scales .now) in
     let good = still-passed (c .before .before .before .before .before .before .before .before .before .before .before .before .number .ensures) (c .before .before .before .before .before .before .before .before .before .before .before .before .before .store-reply .ensures) (c .before .before .before .before .before .before .before .before .before .before .before .if1 .left) in
-    let inner = rw (c .before .before .before .before .before .before .before .before .before .before .length-of .ensures) at (c .before .before .before .before .before .before .before .remove-rows .ensures) in
-    truncate-in-record (a .«record») b good (a .layer) (a .t) inner (sym (c .before .before .number2 .ensures) ∙ c .before .if2 .left)
+    truncate-in-record (a .«record») b good (a .layer) (a .t) (c .before .before .before .before .before .before .before .before .before .before .length-of .ensures) (c .before .before .before .before .before .before .before .remove-rows .ensures) (sym (c .before .before .number2 .ensures) ∙ c .before .if2 .left)
 
 same-length-3 : tie.Need-same-length-3
 same-length-3 c = search needs
@@ -64,9 +62,8 @@ returns-3 c =
     let a = c .before .before .before .before .before .before .before .before .before .before .before .before .before .before .before .before .before .args in
     let b = buffers (a .cells .now) (a .scales .now) in
     let good = still-passed (c .before .before .before .before .before .before .before .before .before .before .before .before .before .number .ensures) (c .before .before .before .before .before .before .before .before .before .before .before .before .before .before .store-reply .ensures) (c .before .before .before .before .before .before .before .before .before .before .before .before .if1 .left) in
-    let inner = rw (c .before .before .before .before .before .before .before .before .before .before .before .length-of .ensures) at (c .before .before .before .before .before .before .before .before .remove-rows .ensures) in
-    rw (c .with-length .ensures, c .before .smaller .ensures, c .before .before .before .before .before .before .before .before .before .before .before .length-of .ensures)
-    (truncate-done (a .«record») b good (a .layer) (a .t) inner (sym (c .before .before .before .number2 .ensures) ∙ c .before .before .if2 .left))
+    rw (c .with-length .ensures, c .before .smaller .ensures)
+    (truncate-done (a .«record») b good (a .layer) (a .t) (c .before .before .before .before .before .before .before .before .before .before .before .length-of .ensures) (c .before .before .before .before .before .before .before .before .remove-rows .ensures) (sym (c .before .before .before .number2 .ensures) ∙ c .before .before .if2 .left))
 
 pub truncate-to-spec : {M : Type 1} → statement M
 truncate-to-spec =
