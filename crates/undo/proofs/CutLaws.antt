@@ -1,0 +1,80 @@
+-- A layer that has given rows in both buffers, and nothing else: what a truncation makes of it, and of every other layer.
+-- It holds by the laws of rows where positions are removed, and elsewhere since nothing is written.
+use mathlib.Core.Path.{_≡_, sym, subst}
+use mathlib.Core.Logic.{_≢_}
+use mathlib.Core.List.{List}
+use Prim.Native.Nat.{ℕ, _-_, _*_, _≤_, _<_, min}
+use native.Mathlib.Nat.{mul-le-mul-right}
+use native.Mathlib.Omega.{arith}
+use native.Mathlib.Decide.{decLt}
+use lib.ListN.{length, length-replicate}
+use lib.Seq.{take-all, length-take-le}
+use Rattle.shapes.specs.declared.Shape.{Shape}
+use Rattle.shapes.specs.Shape.{bytesOf, wordsOf, width, total}
+use Rattle.rows.specs.Row.{rowCells, rowScales}
+use Rattle.rows.specs.Calls.{Buffers}
+use Rattle.layers.specs.Layer.{zeros}
+use Rattle.layers.proofs.LayerLaws.{written-none}
+use Rattle.layers.proofs.PlaceLaws.{Written}
+use Rattle.cells.specs.Calls.{removed}
+use Rattle.cells.specs.Fits.{InRoom}
+use Rattle.undo.specs.Survivors.{Rows, first, firstRows}
+use Rattle.undo.proofs.RowLaws.{holds-cut}
+use Rattle.undo.proofs.NumberLaws.{first-rows}
+use Rattle.undo.proofs.LayerLaws.{HasRows, Sizes, written-size, has-still}
+
+-- the first t positions of n: their size, and all of them where t is not below n
+first-size : (s : Shape) (n t : ℕ) (a : List ℕ) → length a ≡ n * width s → t < n → length (first s t a) ≡ t * width s
+first-size s n t a e u = length-take-le (t * width s) a (rw e (mul-le-mul-right (width s) (omega arith)))
+
+first-all : (s : Shape) (n t : ℕ) (a : List ℕ) → length a ≡ n * width s → n ≤ t → first s t a ≡ a
+first-all s n t a e u = take-all (t * width s) a (rw e (mul-le-mul-right (width s) u))
+
+-- layer m, which has `held` positions, truncated to t: positions are removed where t is below `held`
+module _ {s : Shape} {m : ℕ} (b : Buffers) (k : InRoom s m (length (b .cells)) (length (b .scales))) (held t : ℕ) (w : held ≤ s .capacity) where
+  removed-none : held ≤ t → removed s m held t b ≡ b
+  unfolding removed
+  removed-none h = let e : held - t ≡ 0 = omega arith in rw (e, written-none (bytesOf s), written-none (wordsOf s))
+
+  cut-or-not : (P : Buffers → Type 0) → Dec (t < held) → (t < held → P (removed s m held t b)) → (held ≤ t → P b) → P (removed s m held t b)
+  cut-or-not P (yes u) x y = x u
+  cut-or-not P (no u) x y = subst P (sym (removed-none (omega arith))) (y (omega arith))
+
+  cut : (a : ℕ) {buf : List ℕ} → t < held → length buf ≡ total a s → Written a s m t (held - t) (zeros a) buf
+  cut a u e = record { layer = k .layer; span = omega arith; sized = λ side x h y i z. length-replicate a 0; whole = e }
+
+  cut-sizes : t < held → Sizes s (removed s m held t b)
+  unfolding removed
+  cut-sizes u = (written-size (cut (bytesOf s) u (k .cell-size)), written-size (cut (wordsOf s) u (k .scale-size)))
+
+  pub truncate-sizes : Sizes s (removed s m held t b)
+  truncate-sizes = cut-or-not (Sizes s) (decLt t held) cut-sizes (λ h. (k .cell-size, k .scale-size))
+
+  cut-others : t < held → {l n : ℕ} {r : Rows} → l ≢ m → HasRows s l n r b → HasRows s l n r (removed s m held t b)
+  unfolding removed
+  cut-others u d x = has-still b d x (cut (bytesOf s) u (k .cell-size)) (cut (wordsOf s) u (k .scale-size))
+
+  pub truncate-others : {l n : ℕ} {r : Rows} → l ≢ m → HasRows s l n r b → HasRows s l n r (removed s m held t b)
+  truncate-others {l} {n} {r} d x = cut-or-not (HasRows s l n r) (decLt t held) (λ u. cut-others u d x) (λ h. x)
+
+  cut-own : t < held → {r : Rows} → HasRows s m held r b → HasRows s m (min held t) (firstRows s t r) (removed s m held t b)
+  unfolding removed
+  cut-own u {r} x =
+      let e : min held t ≡ t = omega arith in
+      rw e
+      (record {
+        keys-size = first-size s held t (r .keys) (x .keys-size) u;
+        values-size = first-size s held t (r .values) (x .values-size) u;
+        span = omega (arith, x .span);
+        cells-held = holds-cut (x .cells-held) (cut (bytesOf s) u (k .cell-size)) u (first-rows (rowCells (s .format)) s r t);
+        scales-held = holds-cut (x .scales-held) (cut (wordsOf s) u (k .scale-size)) u (first-rows (rowScales (s .format)) s r t);
+      })
+
+  pub truncate-own : {r : Rows} → HasRows s m held r b → HasRows s m (min held t) (firstRows s t r) (removed s m held t b)
+  truncate-own {r} x =
+      cut-or-not (HasRows s m (min held t) (firstRows s t r)) (decLt t held) (λ u. cut-own u x)
+      (λ h.
+      let e : min held t ≡ held = omega arith in
+      let a = first-all s held t (r .keys) (x .keys-size) h in
+      let c = first-all s held t (r .values) (x .values-size) h in
+      rw (e, a, c) x)

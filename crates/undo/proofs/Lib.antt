@@ -1,0 +1,11 @@
+pub mod RowLaws
+pub mod NumberLaws
+pub mod LayerLaws
+pub mod CutLaws
+pub mod StoreLaws
+pub mod ChangeLaws
+pub mod RunLaws
+pub mod SameRows
+pub mod AppendLaws
+pub mod Undo
+pub mod Corollaries

@@ -1,0 +1,96 @@
+-- A run of calls: each call leaves a store with the rows that it keeps, and so does the run.
+-- It holds call by call: accepted, by the laws of the store; refused, since the store is as it was.
+use mathlib.Core.Path.{_≡_, refl, subst}
+use mathlib.Core.Bool.{Bool, true, false, cond, not}
+use mathlib.Core.List.{List, [], _∷_, _++_}
+use Prim.Native.Nat.{ℕ, _+_}
+use lib.Dec.{eqb, leb}
+use lib.ListN.{length}
+use borrow.Author.Tests.{ltb-true, eqb-true, not-false}
+use Rattle.replies.specs.Outcome.{_when_, lowest, outcome}
+use Rattle.replies.proofs.Refusals.{lowest-none, none-lowest}
+use Rattle.shapes.specs.declared.Shape.{Shape}
+use Rattle.cells.specs.Calls.{appendRefusals, removeRefusals}
+use Rattle.cells.proofs.ReplyLaws.{append-fits}
+use Rattle.rows.specs.Calls.{Buffers}
+use Rattle.store.specs.declared.Record.{Record}
+use Rattle.store.specs.Record.{seqLen, lengthOf, withSeqLen}
+use Rattle.store.specs.Calls.{Store, store, storeRefusals, recordRefusals, appendOf, truncateOf, advanceOf}
+use Rattle.undo.specs.Sequence.{Call, append, truncate, advance, reads, readReply, does, run, accepted}
+use Rattle.undo.specs.Survivors.{Rows, kept, keptFrom}
+use Rattle.undo.proofs.StoreLaws.{Renders}
+use Rattle.undo.proofs.ChangeLaws.{append-done, truncate-done, advance-done}
+
+-- rows that are the same layer by layer
+renders-same : {s : Shape} {t : Store} {of of′ : ℕ → Rows} → ((l : ℕ) → of l ≡ of′ l) → Renders s t of → Renders s t of′
+renders-same {s} {t} e x = subst (λ (f : ℕ → Rows). Renders s t f) (λ i l. e l i) x
+
+-- what an accepted call leaves, and a refused one
+either : {s : Shape} {f g : ℕ → Rows} (flag : Bool) (new old : Store) → (flag ≡ true → Renders s new f) → (flag ≡ false → Renders s old g)
+    → Renders s (cond flag new old) (λ l. cond flag (f l) (g l))
+either true new old x y = x refl
+either false new old x y = y refl
+
+-- after call c: the rows that it keeps where it is accepted, and all rows where it is refused
+abbrev Steps : Shape → Store → (ℕ → Rows) → Call → Type 0
+Steps s t of c = Renders s (does c t .left) (λ l. cond (eqb (does c t .reply) 0) (kept s l (of l) c) (of l))
+
+module _ {r : Record} {b : Buffers} {of : ℕ → Rows} (x : Renders (r .shape) (store r b) of) where
+  append-step : (l : ℕ) (keys values : List ℕ) → Steps (r .shape) (store r b) of (append l keys values)
+  unfolding does appendOf outcome
+  append-step l keys values =
+      let held = lengthOf r l in
+      let refusals = storeRefusals r b ++ appendRefusals (r .shape) l held (length keys) (length values) in
+      either (eqb (lowest refusals) 0) _ _
+      (λ h.
+      let z = lowest-none 0 refusals refl (eqb-true _ 0 h) in
+      let w = append-fits (r .shape) (length (b .cells)) (length (b .scales)) l held (length keys) (length values)
+      (none-lowest _ (z .0, (z .1 .0, z .1 .1 .1))) in
+      append-done x l keys values (w .0 .layer) (w .1))
+      (λ h. x)
+
+  truncate-step : (l n : ℕ) → Steps (r .shape) (store r b) of (truncate l n)
+  unfolding does truncateOf outcome
+  truncate-step l n =
+      let refusals = storeRefusals r b ++ removeRefusals (r .shape) l in
+      either (eqb (lowest refusals) 0) _ _
+      (λ h.
+      let z = lowest-none 0 refusals refl (eqb-true _ 0 h) in
+      truncate-done x l n (ltb-true l (r .shape .layers) (not-false _ (z .1 .1 .1 .0))))
+      (λ h. x)
+
+  -- a call that keeps every row
+  kept-all : {t : Store} (flag : Bool) → Renders (r .shape) t of → Renders (r .shape) t (λ l. cond flag (of l) (of l))
+  kept-all true y = y
+  kept-all false y = y
+
+  advanced : (flag : Bool) (n : ℕ) → Renders (r .shape) (store (cond flag (withSeqLen r n) r) b) of
+  advanced true n = advance-done x n
+  advanced false n = x
+
+  step-here : (c : Call) → Steps (r .shape) (store r b) of c
+  unfolding does advanceOf outcome
+  step-here (append l keys values) = append-step l keys values
+  step-here (truncate l n) = truncate-step l n
+  step-here (advance count) =
+      let flag = eqb (lowest (recordRefusals r ++ ((10 when not (leb (seqLen r + count) 4294967295)) ∷ []))) 0 in
+      kept-all flag (advanced flag (seqLen r + count))
+  step-here (reads what) = kept-all (eqb (readReply what (store r b)) 0) x
+
+-- one call
+pub step : {s : Shape} {t : Store} {of : ℕ → Rows} (c : Call) → Renders s t of → Steps s t of c
+step {s} {t} {of} c x = subst (λ (s : Shape). Renders s t of → Steps s t of c) (x .shape-is) (λ y. step-here {r = t .rec} {b = t .lent} y c) x
+
+-- a run of calls
+kept-next : (s : Shape) (l : ℕ) (r : Rows) (c : Call) (others : List Call) (flag : Bool)
+    → keptFrom s l (cond flag (kept s l r c) r) others ≡ keptFrom s l r (cond flag (c ∷ others) others)
+unfolding keptFrom
+kept-next s l r c others true = refl
+kept-next s l r c others false = refl
+
+pub run-renders : {s : Shape} {t : Store} {of : ℕ → Rows} (calls : List Call) → Renders s t of
+    → Renders s (run calls t) (λ l. keptFrom s l (of l) (accepted calls t))
+unfolding run accepted keptFrom
+run-renders [] x = x
+run-renders {s} {t} {of} (c ∷ calls) x =
+    renders-same (λ l. kept-next s l (of l) c (accepted calls (does c t .left)) (eqb (does c t .reply) 0)) (run-renders calls (step c x))

@@ -1,0 +1,3 @@
+pub mod Sequence
+pub mod Survivors
+pub mod Undo
