@@ -1,8 +1,11 @@
 //! The calls of a store, what a caller holds, and what a call answers.
-use crate::record::{Lent, Record, Shape};
+use crate::dice::Dice;
+use crate::record::{Lent, Record, Shape, WORDS};
 use crate::replies::{Head, Place};
 use std::fmt;
 
+/// Places behind what is lent of each buffer.
+const GUARD: usize = 16;
 /// Words of a list that a text shows.
 const SHOWN: usize = 48;
 
@@ -49,7 +52,7 @@ pub enum Call {
     },
 }
 
-/// The number of a call's kind; 8 to 11 are those of a caller's changes.
+/// The number of a call's kind; 8 to 11 are those of a caller's changes, 14 is that of a comparison with a fresh store.
 pub fn kind(call: &Call) -> u32 {
     match call {
         Call::Open(_) => 1,
@@ -104,6 +107,19 @@ pub struct Holdings {
 }
 
 impl Holdings {
+    /// Dirty holdings in which no store was opened, of which a shape's need is lent.
+    pub fn dirty(shape: &Shape, dice: &mut Dice) -> Holdings {
+        let lent = Lent::exact(shape).expect("the shape is not too large");
+        let mut record = Record::NONE;
+        record.0.copy_from_slice(&dice.words(WORDS));
+        Holdings {
+            record,
+            cells: dice.bytes(lent.cells + GUARD),
+            scales: dice.words(lent.scales + GUARD),
+            lent,
+        }
+    }
+
     /// Makes a change.
     pub fn make(&mut self, change: Change) {
         match change {

@@ -41,9 +41,13 @@ pub fn call(record: &Record, dice: &mut Dice) -> Call {
     }
 }
 
-/// An append of none, some, all or too many positions, sometimes of a wrong length.
+/// An append to a layer that is mostly there.
 fn append(record: &Record, dice: &mut Dice) -> Call {
-    let layer = layer_of(record, dice);
+    append_to(layer_of(record, dice), record, dice)
+}
+
+/// An append of none, some, all or too many positions, sometimes of a wrong length.
+pub fn append_to(layer: u32, record: &Record, dice: &mut Dice) -> Call {
     let shape = record.shape();
     let position = shape.position_numbers().min(1 << 14) as usize;
     let positions = positions(record, layer, dice);
@@ -95,7 +99,7 @@ fn numbers(length: usize, shape: &Shape, dice: &mut Dice) -> Vec<u32> {
 }
 
 /// A truncation below, at or past the length.
-fn truncate(record: &Record, dice: &mut Dice) -> Call {
+pub fn truncate(record: &Record, dice: &mut Dice) -> Call {
     let layer = match dice.below(3) {
         0 => layer_of(record, dice),
         _ => filled_layer(record, dice),
@@ -113,7 +117,7 @@ fn truncate(record: &Record, dice: &mut Dice) -> Call {
 }
 
 /// An advance, sometimes to the largest word or past it.
-fn advance(record: &Record, dice: &mut Dice) -> Call {
+pub fn advance(record: &Record, dice: &mut Dice) -> Call {
     let left = u32::MAX - record.seq_len();
     let count = match dice.below(12) {
         0 => left,
@@ -158,6 +162,19 @@ pub fn read_into(place: Place, lent: usize, dice: &mut Dice) -> Call {
         output: dice.words(lent + GUARD),
         lent,
     }
+}
+
+/// The places of a layer's rows.
+pub fn rows_of(record: &Record, layer: u32) -> impl Iterator<Item = Place> {
+    let (heads, length) = (record.shape().heads.min(64), record.length(layer).min(4096));
+    let place = move |side, head, position| Place {
+        layer,
+        side,
+        head,
+        position,
+    };
+    let of_head = move |side, head| (0..length).map(move |position| place(side, head, position));
+    (0..2).flat_map(move |side| (0..heads).flat_map(move |head| of_head(side, head)))
 }
 
 /// A number below a bound, or sometimes one that is not.

@@ -2,6 +2,7 @@
 mod boundary;
 mod calls;
 mod dice;
+mod differences;
 mod draws;
 mod game;
 mod heads;
@@ -22,8 +23,10 @@ mod rust_heads;
 #[allow(dead_code, unknown_lints, clippy::needless_range_loop)]
 #[allow(clippy::upper_case_acronyms, clippy::manual_checked_ops)]
 mod rust_store;
+mod shapes;
 mod speed;
 mod summands;
+mod survivors;
 mod tally;
 mod vectors;
 mod wanted;

@@ -12,15 +12,26 @@ pub struct Ours {
 }
 
 impl Ours {
-    /// Plays a call.
+    /// Plays a call; every NaN that scores or sums made is told as the same one.
     pub fn play(&mut self, call: &Call) -> Answer {
+        let mut answer = self.play_bits(call);
+        if let (Call::Scores { lent, .. } | Call::Sums { lent, .. }, boundary::DONE) =
+            (call, answer.reply)
+        {
+            unite_nans(&mut answer.told, *lent);
+        }
+        answer
+    }
+
+    /// Plays a call, and tells every bit of what it made.
+    pub fn play_bits(&mut self, call: &Call) -> Answer {
         match call {
             Call::Open(shape) => plain(boundary::open(self.lending(), shape)),
             Call::Append {
                 layer,
                 keys,
                 values,
-            } => plain(boundary::append(self.lending(), *layer, keys, values)),
+            } => plain(self.append(*layer, keys, values)),
             Call::Truncate { layer, to } => plain(boundary::truncate(self.lending(), *layer, *to)),
             Call::Advance { count } => plain(boundary::advance(self.record(), *count)),
             Call::CachedLen { layer } => {
@@ -34,8 +45,7 @@ impl Ours {
             } => {
                 let mut output = output.clone();
                 let reply = boundary::read_row(self.lending(), *place, &mut output[..*lent]);
-                let told = Told::Output(output);
-                Answer { reply, told }
+                filled(reply, output)
             }
             Call::Scores {
                 head,
@@ -47,7 +57,7 @@ impl Ours {
                 let mut output = output.clone();
                 let (scale, places) = (f32::from_bits(*scale), &mut output[..*lent]);
                 let reply = boundary::scores(self.lending(), *head, query, scale, places);
-                computed(reply, output, *lent)
+                filled(reply, output)
             }
             Call::Sums {
                 head,
@@ -58,9 +68,14 @@ impl Ours {
                 let mut output = output.clone();
                 let places = &mut output[..*lent];
                 let reply = boundary::sums(self.lending(), *head, weights, places);
-                computed(reply, output, *lent)
+                filled(reply, output)
             }
         }
+    }
+
+    /// Appends positions to a layer; the reply.
+    pub fn append(&mut self, layer: u32, keys: &[u32], values: &[u32]) -> u32 {
+        boundary::append(self.lending(), layer, keys, values)
     }
 
     /// The words of the record.
@@ -85,15 +100,19 @@ fn plain(reply: u32) -> Answer {
     Answer { reply, told }
 }
 
-/// The reply and the output of a call that computes its lent front, where a NaN may be any one.
-fn computed(reply: u32, mut output: Vec<u32>, lent: usize) -> Answer {
-    if reply == boundary::DONE {
+/// A reply with a whole output.
+fn filled(reply: u32, output: Vec<u32>) -> Answer {
+    let told = Told::Output(output);
+    Answer { reply, told }
+}
+
+/// Makes every NaN of an output's front the same one.
+fn unite_nans(told: &mut Told, lent: usize) {
+    if let Told::Output(output) = told {
         for word in &mut output[..lent] {
             *word = rules::word_of(f32::from_bits(*word));
         }
     }
-    let told = Told::Output(output);
-    Answer { reply, told }
 }
 
 /// The reply and the count of a question.

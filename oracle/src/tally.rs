@@ -19,18 +19,20 @@ impl Tally {
         self.piece = piece;
     }
 
-    /// Compares the answer wanted with the library's.
+    /// Compares the answer wanted with the library's; whether they are equal.
     #[inline]
     pub fn equal<T: PartialEq + Debug>(
         &mut self,
         wanted: T,
         ours: T,
         input: impl FnOnce() -> String,
-    ) {
+    ) -> bool {
         self.compared += 1;
-        if wanted != ours {
+        let equal = wanted == ours;
+        if !equal {
             self.note(&wanted, &ours, input);
         }
+        equal
     }
 
     /// Counts a difference, and keeps its text if it is one of the first.

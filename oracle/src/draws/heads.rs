@@ -21,32 +21,50 @@ pub fn call(record: &Record, dice: &mut Dice) -> Call {
         0 => spoiled(&right, record, dice),
         _ => right,
     };
+    let ask = limited(ask);
     match dice.below(2) {
         0 => scores(&ask, dice),
         _ => sums(&ask, dice),
     }
 }
 
+/// Scores and sums of all positions of a head that is there.
+pub fn of_all_positions(head: Head, record: &Record, dice: &mut Dice) -> [Call; 2] {
+    let ask = Ask {
+        head,
+        row: record.shape().head_size as usize,
+        positions: record.length(head.layer) as usize,
+    };
+    [scores(&ask, dice), sums(&ask, dice)]
+}
+
+/// What is asked, as far as it is not too much.
+fn limited(ask: Ask) -> Ask {
+    Ask {
+        head: ask.head,
+        row: ask.row.min(MOST_PLACES),
+        positions: ask.positions.min(MOST_PLACES),
+    }
+}
+
 /// A query for scores into a dirty output.
 fn scores(ask: &Ask, dice: &mut Dice) -> Call {
-    let (row, positions) = (ask.row.min(MOST_PLACES), ask.positions.min(MOST_PLACES));
     Call::Scores {
         head: ask.head,
-        query: summands::run(row, dice),
+        query: summands::run(ask.row, dice),
         scale: summands::factor(dice),
-        output: dice.words(positions + GUARD),
-        lent: positions,
+        output: dice.words(ask.positions + GUARD),
+        lent: ask.positions,
     }
 }
 
 /// Weights for sums into a dirty output.
 fn sums(ask: &Ask, dice: &mut Dice) -> Call {
-    let (row, positions) = (ask.row.min(MOST_PLACES), ask.positions.min(MOST_PLACES));
     Call::Sums {
         head: ask.head,
-        weights: summands::run(positions, dice),
-        output: dice.words(row + GUARD),
-        lent: row,
+        weights: summands::run(ask.positions, dice),
+        output: dice.words(ask.row + GUARD),
+        lent: ask.row,
     }
 }
 

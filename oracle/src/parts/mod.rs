@@ -6,6 +6,7 @@ pub mod heads;
 mod reading;
 mod scales;
 mod store;
+mod undo;
 
 use crate::part::{Part, Reach};
 
@@ -19,6 +20,7 @@ pub fn all(reach: Reach) -> Vec<Part> {
         bf16::parts(reach),
         store::parts(reach),
         heads::parts(reach),
+        undo::parts(reach),
     ]
     .into_iter()
     .flatten()

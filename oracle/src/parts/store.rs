@@ -2,7 +2,6 @@
 //!
 //! Both sides hold a record and two buffers, dirty at first and longer than what is lent.
 mod largest;
-mod shapes;
 mod turns;
 
 use crate::calls::Call;

@@ -1,11 +1,9 @@
 //! Stores whose heads are asked for scores and sums.
 use crate::calls::{Call, Holdings, Step};
 use crate::dice::Dice;
-use crate::record::{Lent, Record, Shape, BF16, F32, INT4, INT8, WORDS};
+use crate::record::{Record, Shape, BF16, F32, INT4, INT8};
 use crate::{summands, words};
 
-/// Places behind what is lent of each buffer.
-const GUARD: usize = 16;
 /// A store of more numbers than this gets fewer heads and layers, as far as it has some to give.
 const MANY: u64 = 1 << 18;
 
@@ -28,7 +26,7 @@ pub fn start(dice: &mut Dice) -> Start {
     };
     match dice.below(2) {
         0 => Start {
-            holdings: dirty(&shape, dice),
+            holdings: Holdings::dirty(&shape, dice),
             steps: filled(&shape, run, dice),
         },
         _ => Start {
@@ -80,19 +78,6 @@ fn numbers(shape: &Shape) -> u64 {
     2 * u64::from(shape.layers) * u64::from(shape.capacity) * shape.position_numbers()
 }
 
-/// Holdings in which no store was opened.
-fn dirty(shape: &Shape, dice: &mut Dice) -> Holdings {
-    let lent = Lent::exact(shape).expect("the shape is not too large");
-    let mut record = Record::NONE;
-    record.0.copy_from_slice(&dice.words(WORDS));
-    Holdings {
-        record,
-        cells: dice.bytes(lent.cells + GUARD),
-        scales: dice.words(lent.scales + GUARD),
-        lent,
-    }
-}
-
 /// An open, and two appends to each layer, of which one may have no positions.
 fn filled(shape: &Shape, run: Run, dice: &mut Dice) -> Vec<Step> {
     let mut calls = vec![Call::Open(*shape)];
@@ -121,7 +106,7 @@ fn length(shape: &Shape, dice: &mut Dice) -> u32 {
 
 /// Holdings whose cells and scale words nobody computed, under a record that says they are a store.
 fn made_by_hand(shape: &Shape, run: Run, dice: &mut Dice) -> Holdings {
-    let mut holdings = dirty(shape, dice);
+    let mut holdings = Holdings::dirty(shape, dice);
     holdings.record = Record::opened(shape);
     for layer in 0..shape.layers as usize {
         let length = length(shape, dice) as usize;

@@ -1,14 +1,16 @@
 //! What a random sequence does next.
-use super::shapes::{huge, spoiled, Size};
 use crate::calls::{Call, Holdings, Step};
 use crate::dice::Dice;
-use crate::draws::{any_call, filled_layer, read_into};
+use crate::draws::{any_call, filled_layer, read_into, rows_of};
 use crate::mishaps::{damaged, fits, lend, with_wrong_room, word_of, wrong_room};
 use crate::record::{Lent, Record, Shape, SEQ_LEN, WORDS};
-use crate::replies::{self, Place};
+use crate::replies;
+use crate::shapes::{huge, spoiled, Size};
 
 /// The most rows that are read in a row.
 const ROWS: usize = 48;
+/// The most bytes of both buffers that a store is given.
+const MOST_BYTES: u128 = 1 << 24;
 
 /// The kind of stores of a sequence, and its first one.
 pub struct Script {
@@ -22,7 +24,7 @@ impl Script {
         let size = Size::drawn(dice);
         Script {
             size,
-            first: size.shape(dice),
+            first: size.shape(MOST_BYTES, dice),
         }
     }
 
@@ -66,7 +68,7 @@ impl Script {
 
     /// Opens a store, over a used one or not.
     fn open(&self, holdings: &Holdings, dice: &mut Dice) -> Vec<Step> {
-        let drawn = self.size.shape(dice);
+        let drawn = self.size.shape(MOST_BYTES, dice);
         let shape = if fits(exact(&drawn), holdings) {
             drawn
         } else {
@@ -149,22 +151,9 @@ fn record_without_buffers(dice: &mut Dice) -> Record {
 /// Every row of a layer, as far as they are not too many.
 fn rows_of_a_layer(record: &Record, dice: &mut Dice) -> Vec<Step> {
     let layer = filled_layer(record, dice);
-    let shape = record.shape();
-    let (heads, length) = (shape.heads.min(64), record.length(layer).min(4096));
-    let places = (0..2).flat_map(|side| {
-        let positions = move |head| (0..length).map(move |position| (side, head, position));
-        (0..heads).flat_map(positions)
-    });
-    let read = |(side, head, position)| {
-        let place = Place {
-            layer,
-            side,
-            head,
-            position,
-        };
-        Step::Call(read_into(place, shape.head_size as usize, dice))
-    };
-    places.take(ROWS).map(read).collect()
+    let row = record.shape().head_size as usize;
+    let read = |place| Step::Call(read_into(place, row, dice));
+    rows_of(record, layer).take(ROWS).map(read).collect()
 }
 
 #[cfg(test)]

@@ -5,8 +5,6 @@ use crate::replies::MOST_CELLS;
 
 /// The limits of layers, heads, head size and capacity.
 pub const LIMITS: [u32; 4] = [128, 64, 256, 4096];
-/// The most bytes of both buffers that a store is given.
-const MOST_BYTES: u128 = 1 << 24;
 
 /// The kinds of shapes.
 #[derive(Clone, Copy, PartialEq)]
@@ -29,8 +27,8 @@ impl Size {
         }
     }
 
-    /// A shape of the kind.
-    pub fn shape(self, dice: &mut Dice) -> Shape {
+    /// A shape of the kind; one at a limit has at most so many bytes of buffers.
+    pub fn shape(self, most_bytes: u128, dice: &mut Dice) -> Shape {
         let format = dice.below(4);
         match self {
             Size::Small => {
@@ -59,7 +57,7 @@ impl Size {
                     ],
                 )
             }
-            Size::Limit => at_limits(format, dice),
+            Size::Limit => at_limits(format, most_bytes, dice),
         }
     }
 }
@@ -77,7 +75,7 @@ fn made(format: u32, sizes: [u32; 4]) -> Shape {
 }
 
 /// A shape with one or two sizes at their limit, whose buffers are not too large.
-fn at_limits(format: u32, dice: &mut Dice) -> Shape {
+fn at_limits(format: u32, most_bytes: u128, dice: &mut Dice) -> Shape {
     loop {
         let mut sizes = [
             1 + dice.below(3),
@@ -93,7 +91,7 @@ fn at_limits(format: u32, dice: &mut Dice) -> Shape {
             sizes[place] = LIMITS[place];
         }
         let shape = made(format, sizes);
-        if shape.cells() + 4 * shape.scales() <= MOST_BYTES {
+        if shape.cells() + 4 * shape.scales() <= most_bytes {
             return shape;
         }
     }
