@@ -1,11 +1,14 @@
 //! The second fixed list: calls on small stores, and the answers that a Rattle program gives again.
+mod fresh;
 mod heads;
 mod list;
 mod steps;
+mod undo;
 
 use crate::calls::{kind, Answer, Call, Change, Holdings, Step, Told};
 use crate::record::{Lent, Record};
 use crate::wanted::Wanted;
+use fresh::Kept;
 use std::path::Path;
 use std::{fs, io};
 
@@ -15,16 +18,37 @@ const CELLS: (usize, u8) = (2048, 0xA5);
 const SCALES: (usize, u32) = (256, 0xA5A5_A5A5);
 /// What each place of an output holds before a call.
 const OUTPUT: u32 = 0xDEAD;
+/// Words of a line at most.
+const MOST_WORDS: usize = 256;
+
+/// One line of the list.
+#[derive(Clone)]
+enum Line {
+    Step(Step),
+    /// The store against a fresh one.
+    Fresh,
+}
+
+/// What is told of a line: a call's answer, or how the store compares with a fresh one.
+enum Shown {
+    Answer(Answer),
+    Fresh(String),
+}
+
+/// The lines of steps.
+fn lines(steps: Vec<Step>) -> Vec<Line> {
+    steps.into_iter().map(Line::Step).collect()
+}
 
 /// Writes the list to the files `stdin` and `stdout` of a folder.
 pub fn write(folder: &Path) -> io::Result<()> {
-    let steps = list::all();
+    let lines = list::all();
     fs::create_dir_all(folder)?;
     fs::write(
         folder.join("stdin"),
-        steps.iter().map(asked).collect::<String>(),
+        lines.iter().map(asked).collect::<String>(),
     )?;
-    fs::write(folder.join("stdout"), answers(&steps))
+    fs::write(folder.join("stdout"), answers(&lines))
 }
 
 /// What the program has before its first line.
@@ -40,23 +64,31 @@ fn at_first() -> Wanted {
     })
 }
 
-/// The line of `stdin` that is a step.
-fn asked(step: &Step) -> String {
-    let words: Vec<String> = words_of(step)
+/// A line of `stdin`.
+fn asked(line: &Line) -> String {
+    let words: Vec<String> = words_of(line)
         .iter()
         .map(|word| format!("{word:08X}"))
         .collect();
     words.join(" ") + "\n"
 }
 
-/// A step as words: its kind, then what it takes.
-fn words_of(step: &Step) -> Vec<u32> {
-    match step {
-        Step::Call(call) => [vec![kind(call)], arguments(call)].concat(),
-        Step::Change(Change::Lend(lent)) => vec![8, lent.cells as u32, lent.scales as u32],
-        Step::Change(Change::RecordWord(place, word)) => vec![9, *place as u32, *word],
-        Step::Change(Change::CellByte(place, byte)) => vec![10, *place as u32, u32::from(*byte)],
-        Step::Change(Change::ScaleWord(place, word)) => vec![11, *place as u32, *word],
+/// A line as words: its kind, then what it takes.
+fn words_of(line: &Line) -> Vec<u32> {
+    match line {
+        Line::Step(Step::Call(call)) => [vec![kind(call)], arguments(call)].concat(),
+        Line::Step(Step::Change(change)) => change_words(change),
+        Line::Fresh => vec![14],
+    }
+}
+
+/// A change as words.
+fn change_words(change: &Change) -> Vec<u32> {
+    match *change {
+        Change::Lend(lent) => vec![8, lent.cells as u32, lent.scales as u32],
+        Change::RecordWord(place, word) => vec![9, place as u32, word],
+        Change::CellByte(place, byte) => vec![10, place as u32, u32::from(byte)],
+        Change::ScaleWord(place, word) => vec![11, place as u32, word],
     }
 }
 
@@ -97,24 +129,35 @@ fn arguments(call: &Call) -> Vec<u32> {
 }
 
 /// The text of `stdout`.
-fn answers(steps: &[Step]) -> String {
+fn answers(lines: &[Line]) -> String {
     let mut text = String::new();
-    play(steps, |_, answer, wanted| {
-        text += &answered(answer, &wanted.holdings);
+    play(lines, |_, shown, wanted| {
+        text += &match shown {
+            Shown::Answer(answer) => answered(&answer, &wanted.holdings),
+            Shown::Fresh(line) => line,
+        };
     });
     text
 }
 
-/// Plays steps, and shows each call, its answer, and what the caller has to hold.
-fn play(steps: &[Step], mut show: impl FnMut(&Call, &Answer, &mut Wanted)) {
+/// Plays lines, and shows each of which something is told, with that and what the caller has to hold.
+fn play(lines: &[Line], mut show: impl FnMut(&Line, Shown, &mut Wanted)) {
     let mut wanted = at_first();
-    for step in steps {
-        match step {
-            Step::Call(call) => {
+    let mut kept = Kept::nothing(&Record::NONE.shape());
+    for line in lines {
+        match line {
+            Line::Step(Step::Call(call)) => {
                 let answer = wanted.play(call);
-                show(call, &answer, &mut wanted);
+                if answer.reply == 0 {
+                    kept.follow(call);
+                }
+                show(line, Shown::Answer(answer), &mut wanted);
             }
-            Step::Change(change) => wanted.make(*change),
+            Line::Step(Step::Change(change)) => wanted.make(*change),
+            Line::Fresh => {
+                let told = kept.compared(&wanted.holdings);
+                show(line, Shown::Fresh(told), &mut wanted);
+            }
         }
     }
 }
@@ -162,13 +205,15 @@ mod tests {
     use std::collections::BTreeSet;
 
     /// Bytes of `stdin` that the program takes.
-    const MOST_BYTES: usize = 131_072;
+    const MOST_BYTES: usize = 262_144;
 
     #[test]
     fn every_call_of_the_list_gives_each_of_its_replies() {
         let mut seen = BTreeSet::new();
-        play(&list::all(), |call, answer, _| {
-            seen.insert((kind(call), answer.reply));
+        play(&list::all(), |line, shown, _| {
+            if let (Line::Step(Step::Call(call)), Shown::Answer(answer)) = (line, shown) {
+                seen.insert((kind(call), answer.reply));
+            }
         });
         assert_eq!(seen, replies::each());
     }
@@ -176,9 +221,12 @@ mod tests {
     #[test]
     fn every_wrong_order_shows_in_scores_and_sums_by_hand() {
         let mut told = BTreeSet::new();
-        play(&heads::all(), |call, answer, wanted| {
-            if let (0, Told::Output(made)) = (answer.reply, &answer.told) {
-                told.extend(wrong::told_apart(call, made, wanted));
+        play(&lines(heads::all()), |line, shown, wanted| {
+            let (Line::Step(Step::Call(call)), Shown::Answer(answer)) = (line, shown) else {
+                return;
+            };
+            if let (0, Told::Output(made)) = (answer.reply, answer.told) {
+                told.extend(wrong::told_apart(call, &made, wanted));
             }
         });
         assert_eq!(told, wrong::names().collect());
@@ -186,16 +234,16 @@ mod tests {
 
     #[test]
     fn the_list_fits_into_the_program() {
-        let steps = list::all();
-        let bytes: usize = steps.iter().map(|step| asked(step).len()).sum();
+        let lines = list::all();
+        let bytes: usize = lines.iter().map(|line| asked(line).len()).sum();
         assert!(bytes <= MOST_BYTES);
-        for step in steps {
-            assert!(words_of(&step).len() <= 256);
-            if let Step::Call(
+        for line in lines {
+            assert!(words_of(&line).len() <= MOST_WORDS);
+            if let Line::Step(Step::Call(
                 Call::ReadRow { output, lent, .. }
                 | Call::Scores { output, lent, .. }
                 | Call::Sums { output, lent, .. },
-            ) = step
+            )) = line
             {
                 assert!(output == vec![OUTPUT; lent] && lent <= 256);
             }
@@ -204,7 +252,7 @@ mod tests {
 
     #[test]
     fn the_group_of_p2_has_the_score_and_the_sums_of_p9() {
-        let text = answers(&heads::group_of_p2());
+        let text = answers(&lines(heads::group_of_p2()));
         let zeros = " 00000000".repeat(15);
         let sums = format!("3fe00000{zeros} bfe00000{zeros}");
         assert!(text.ends_with(&format!(
@@ -214,7 +262,7 @@ mod tests {
 
     #[test]
     fn rising_sums_lose_what_stands_beside_a_larger_number() {
-        let text = answers(&heads::orders());
+        let text = answers(&lines(heads::orders()));
         let numbers = "3f800000 00000000 b9800000 7f800000";
         assert_eq!(
             text.matches(&format!("reply 0 numbers {numbers}\n"))
@@ -225,7 +273,7 @@ mod tests {
 
     #[test]
     fn keys_of_the_whole_case_lie_in_the_first_cells() {
-        let text = answers(&list::whole_case());
+        let text = answers(&lines(list::whole_case()));
         let cells = format!("cells 7f 01 ff fd{}\n", " 00".repeat(12));
         let scales = "scales 3f800000 00000000 3f800000 00000000\n";
         assert!(text.contains(&format!(
@@ -235,7 +283,7 @@ mod tests {
 
     #[test]
     fn a_refused_open_leaves_a_record_of_zeros() {
-        let text = answers(&list::largest());
+        let text = answers(&lines(list::largest()));
         let none = "record 0 0 0 0 0 seq 0 lens\ncells\nscales\n";
         assert_eq!(text, format!("reply 2\n{none}reply 1\n{none}"));
     }

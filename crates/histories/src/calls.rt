@@ -1,19 +1,22 @@
 // One call for each line.
+use crate::fresh;
 use crate::show;
 ghost use Prim.Native.Nat.{_≤_, _<_};
 
-// One line after the other. `lent` has the cell bytes and scale words that are lent.
+// One line after the other. `lent` has the cell bytes and scale words that are lent, `kept` and `counts` the survivors.
 pub(crate) fn play(
     text: &[u8],
     rec: &mut [u32; 134],
     lent: &mut [u32; 2],
     cells: &mut [u8],
     scales: &mut [u32],
+    kept: &mut [u32; 8192],
+    counts: &mut [u32; 9],
 ) {
     let mut at = 0;
     while at < text.len() {
         let end = at + lines::line_length(text, at);
-        step(&text[at..end], rec, lent, cells, scales);
+        step(&text[at..end], rec, lent, cells, scales, kept, counts);
         at = end + 1;
     }
 }
@@ -24,6 +27,8 @@ fn step(
     lent: &mut [u32; 2],
     cells: &mut [u8],
     scales: &mut [u32],
+    kept: &mut [u32; 8192],
+    counts: &mut [u32; 9],
 ) {
     let kind = word(line, 0);
     match kind {
@@ -35,14 +40,22 @@ fn step(
         _ => {
             let a = smaller(lent[0], cells.len());
             let b = smaller(lent[1], scales.len());
-            call(line, kind, rec, &mut cells[0..a], &mut scales[0..b]);
+            call(
+                line,
+                kind,
+                rec,
+                &mut cells[0..a],
+                &mut scales[0..b],
+                kept,
+                counts,
+            );
         }
     }
 }
 
 // Word `k` of a line, 0 past its end.
-fn word(line: &[u8], k: usize) -> u32
-    requires { ⌜ k ≤ 1000 ⌝ }
+pub(crate) fn word(line: &[u8], k: usize) -> u32
+    requires { ⌜ k ≤ 2000 ⌝ }
 {
     let w = lines::hex_at(line, 9 * k);
     if w <= 0xFFFF_FFFF { w as u32 } else { 0 }
@@ -57,20 +70,39 @@ fn words(line: &[u8]) -> usize {
     }
 }
 
-fn smaller(a: u32, b: usize) -> usize
+pub(crate) fn smaller(a: u32, b: usize) -> usize
     ensures { λ r. ⌜ r ≤ b ⌝ }
 {
-    if (a as usize) < b { a as usize } else { b }
+    least(a as usize, b)
+}
+
+pub(crate) fn least(a: usize, b: usize) -> usize
+    ensures { λ r. ⌜ r ≤ b ⌝ }
+{
+    if a < b { a } else { b }
 }
 
 // A call, and what is told of it.
-fn call(line: &[u8], kind: u32, rec: &mut [u32; 134], cells: &mut [u8], scales: &mut [u32]) {
+fn call(
+    line: &[u8],
+    kind: u32,
+    rec: &mut [u32; 134],
+    cells: &mut [u8],
+    scales: &mut [u32],
+    kept: &mut [u32; 8192],
+    counts: &mut [u32; 9],
+) {
     match kind {
         5 | 6 => count(line, kind, rec),
         7 => read(line, rec, cells, scales),
         12 | 13 => compute(line, kind, rec, cells, scales),
+        14 => fresh::compare(rec, cells, scales, kept, counts),
         _ => {
-            show::reply(change(line, kind, rec, cells, scales));
+            let reply = change(line, kind, rec, cells, scales);
+            if reply == 0 {
+                fresh::follow(line, kind, rec, kept, counts);
+            }
+            show::reply(reply);
             show::line_end();
             show::left(rec, cells, scales);
         }

@@ -24,7 +24,11 @@ pub(crate) fn floats(numbers: &[f32]) {
 }
 
 pub(crate) fn line_end() {
-    io::write_all(STDOUT_FILENO, b"\n");
+    text(b"\n");
+}
+
+pub(crate) fn text(bytes: &[u8]) {
+    io::write_all(STDOUT_FILENO, bytes);
 }
 
 // The record and both buffers.
@@ -99,7 +103,7 @@ fn byte_fields(bytes: &[u8]) {
     }
 }
 
-fn decimal(n: u32) {
+pub(crate) fn decimal(n: u32) {
     io::write_all(STDOUT_FILENO, b" ");
     io::print_decimal(STDOUT_FILENO, n as u64);
 }

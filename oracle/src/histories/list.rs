@@ -3,7 +3,7 @@ use super::steps::{
     append, beside, cached_len, each_call, exact, filled, lend, opened, questions, read,
     record_word, scores, shape, sums, truncate, with_output, word_of_filled, SMALL,
 };
-use super::{at_first, heads};
+use super::{at_first, heads, lines, undo, Line};
 use crate::calls::{Call, Change, Step};
 use crate::dice::Dice;
 use crate::draws;
@@ -28,8 +28,8 @@ const SHAPES: [Shape; 10] = [
     shape(INT4, 1, 1, 64, 1),
 ];
 
-/// Every step: by hand at each edge, then random histories.
-pub fn all() -> Vec<Step> {
+/// Every line: by hand at each edge, then random histories, then those that take back.
+pub fn all() -> Vec<Line> {
     let mut steps = each_call();
     steps.extend(largest());
     steps.extend(opens());
@@ -50,7 +50,7 @@ pub fn all() -> Vec<Step> {
     for (shape, piece) in SHAPES.iter().zip(0..) {
         steps.extend(random_history(shape, piece));
     }
-    steps
+    [lines(steps), undo::all()].concat()
 }
 
 /// P10: what the largest store would need is not at hand, and one layer more is too many.

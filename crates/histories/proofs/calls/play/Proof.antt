@@ -9,10 +9,10 @@ use Rattle.histories.proofs.calls.play.Statement.{statement}
 use Rattle.histories.proofs.calls.play.Tie as tie
 
 abbrev Inv-loop : tie.InvT-loop
-Inv-loop text rec₀ lent₀ cells₀ scales₀ at₀ rec lent cells scales at = (at ≤ length text + 1) × (length cells ≡ length cells₀) × (length scales ≡ length scales₀)
+Inv-loop text rec₀ lent₀ cells₀ scales₀ kept₀ counts₀ at₀ rec lent cells scales kept counts at = (at ≤ length text + 1) × (length cells ≡ length cells₀) × (length scales ≡ length scales₀)
 
 abbrev μ-loop : tie.MeasureT-loop
-μ-loop text rec₀ lent₀ cells₀ scales₀ at₀ rec lent cells scales at = length text + 1 - at
+μ-loop text rec₀ lent₀ cells₀ scales₀ kept₀ counts₀ at₀ rec lent cells scales kept counts at = length text + 1 - at
 
 loop-holds : tie.Need-loop-holds Inv-loop μ-loop
 loop-holds c = search needs
@@ -49,11 +49,11 @@ step-requires c κs = search needs
 
 add-at : tie.Need-add-at Inv-loop μ-loop
 add-at c =
-    let text = c .before .before .before .before .before .before .before .before .before .before .before .before .before .before .before .before .args .text .now in
-    let rest = drop (c .before .before .before .before .before .before .before .before .before .before .before .before .loop .at) text in
-    let e = c .before .before .before .before .before .before .before .before .before .before .line-length .ensures in
+    let text = c .before .before .before .before .before .before .before .before .before .before .before .before .before .before .before .before .before .before .args .text .now in
+    let rest = drop (c .before .before .before .before .before .before .before .before .before .before .before .before .before .before .loop .at) text in
+    let e = c .before .before .before .before .before .before .before .before .before .before .before .before .line-length .ensures in
     let w = line-within rest in
-    let n = length-drop (c .before .before .before .before .before .before .before .before .before .before .before .before .loop .at) text in
+    let n = length-drop (c .before .before .before .before .before .before .before .before .before .before .before .before .before .before .loop .at) text in
     record { fits = omega arith }
 
 loop-less : tie.Need-loop-less Inv-loop μ-loop
@@ -61,11 +61,11 @@ loop-less c = search needs
 
 loop-again : tie.Need-loop-again Inv-loop μ-loop
 loop-again c =
-    let text = c .before .before .before .before .before .before .before .before .before .before .before .before .before .before .before .before .args .text .now in
-    let rest = drop (c .before .before .before .before .before .before .before .before .before .before .before .before .loop .at) text in
-    let e = c .before .before .before .before .before .before .before .before .before .before .line-length .ensures in
+    let text = c .before .before .before .before .before .before .before .before .before .before .before .before .before .before .before .before .before .before .args .text .now in
+    let rest = drop (c .before .before .before .before .before .before .before .before .before .before .before .before .before .before .loop .at) text in
+    let e = c .before .before .before .before .before .before .before .before .before .before .before .before .line-length .ensures in
     let w = line-within rest in
-    let n = length-drop (c .before .before .before .before .before .before .before .before .before .before .before .before .loop .at) text in
+    let n = length-drop (c .before .before .before .before .before .before .before .before .before .before .before .before .before .before .loop .at) text in
     (omega arith, search needs, search needs)
 
 same-length : tie.Need-same-length Inv-loop μ-loop
