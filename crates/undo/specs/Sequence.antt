@@ -30,6 +30,7 @@ pub data Call : Type 0 where
   advance : ℕ → Call
   reads : Reading → Call
 
+-- the reply of a call that reads
 abbrev pub readReply : Reading → Store → ℕ
 readReply (cachedLen l) t = cachedLenOf (t .rec) l .reply
 readReply memoryBytes t = memoryBytesOf (t .rec) .reply
