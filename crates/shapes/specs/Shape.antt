@@ -4,6 +4,7 @@ use mathlib.Core.Bool.{Bool, cond, not, _&&_}
 use mathlib.Core.List.{List, [], _∷_}
 use lib.Dec.{eqb, leb}
 use Rattle.replies.specs.Outcome.{Refusal, _when_}
+use Rattle.shapes.specs.declared.Need.{Need}
 use Rattle.shapes.specs.declared.Shape.{Shape}
 
 -- D: the numbers of a head
@@ -59,6 +60,10 @@ limits s =
 -- those, and the most cells
 unfoldable pub within : Shape → Bool
 within s = limits s && leb (cellTotal s) 1073741824
+
+-- the lengths of the buffers that a shape needs; none outside the limits
+unfoldable pub needOf : Shape → Need
+needOf s = record { cells = cond (within s) (cellTotal s) 0; scales = cond (within s) (scaleTotal s) 0 }
 
 -- the buffers have exactly the lengths that the shape needs
 unfoldable pub exact : Shape → ℕ → ℕ → Bool

@@ -5,7 +5,7 @@ ghost use mathlib.Core.Bool.{true};
 ghost use Prim.Native.Nat.{_≤_};
 ghost use Rattle.replies.specs.Reply.{replyNumber};
 ghost use Rattle.replies.specs.Outcome.{lowest};
-ghost use Rattle.shapes.specs.Shape.{ofFormat, cellBytes, scaleWords, total, upTo, limits, within, roomRefusals};
+ghost use Rattle.shapes.specs.Shape.{ofFormat, cellBytes, scaleWords, total, upTo, limits, within, needOf, roomRefusals};
 
 pub struct Shape {
     pub format: u32,
@@ -13,6 +13,12 @@ pub struct Shape {
     pub heads: u32,
     pub head_size: u32,
     pub capacity: u32,
+}
+
+// The lengths of the two buffers that a shape needs.
+pub struct Need {
+    pub cells: usize,
+    pub scales: usize,
 }
 
 // What F32, BF16, INT8 and INT4 have, by the number of the format.
@@ -72,6 +78,22 @@ pub fn room_reply(shape: Shape, cells: usize, scales: usize) -> Reply
         return Reply::Room;
     }
     Reply::Done
+}
+
+// The lengths of the buffers that a shape needs; none outside the limits.
+pub fn need_of(shape: Shape) -> Need
+    ensures { λ r. ⌜ r ≡ needOf shape ⌝ }
+{
+    if !is_within(shape) {
+        return Need {
+            cells: 0,
+            scales: 0,
+        };
+    }
+    Need {
+        cells: room(shape, cell_bytes(shape.format, shape.head_size)),
+        scales: room(shape, scale_words(shape.format, shape.head_size)),
+    }
 }
 
 // All elements of a buffer that has `each` for one position and head.
