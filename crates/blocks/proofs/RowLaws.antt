@@ -12,7 +12,8 @@ use lib.Ieee.{Float, nan, binary32, add, mul}
 use Rattle.lists.specs.Chunks.{tab, part}
 use Rattle.lists.proofs.Tab.{part-tab, tab-add, tab-same}
 use Rattle.numbers.specs.Word.{float}
-use Rattle.rows.specs.Row.{fromLittle, f32At}
+use Rattle.lists.specs.Bytes.{fromLittle}
+use Rattle.rows.specs.Row.{f32At}
 use Rattle.blocks.specs.Order.{codeFrom, groupCode, int4Term, added}
 use Rattle.blocks.proofs.OrderLaws.{addedTo, added-next, added-all}
 

@@ -10,7 +10,8 @@ use Rattle.numbers.specs.Code.{nearestWhole, held, code8, code4, less8, read4}
 use Rattle.groups.specs.Group.{packed, half, unpacked}
 use Rattle.replies.specs.Outcome.{lowest, outcome}
 use Rattle.shapes.specs.Shape.{ofFormat, cellBytes, scaleWords, total, limits, within, exact}
-use Rattle.rows.specs.Row.{little, f32Cells, bf16Cells, int8Cells, int8Scales, int4Cells, int4Scales, rowCells, rowScales}
+use Rattle.lists.specs.Bytes.{little}
+use Rattle.rows.specs.Row.{f32Cells, bf16Cells, int8Cells, int8Scales, int4Cells, int4Scales, rowCells, rowScales}
 use Rattle.layers.specs.Layer.{put, putSide, putLayer, written}
 use Rattle.cells.specs.Calls.{appended}
 use Rattle.store.specs.Record.{goodLengths}

@@ -1,4 +1,5 @@
 pub mod At
+pub mod Bytes
 pub mod Each
 pub mod Joined
 pub mod Loop

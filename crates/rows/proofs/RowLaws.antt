@@ -1,13 +1,15 @@
 -- The lengths of a row's cells, scale words and numbers, and bytes and groups as a row has them.
 -- Each holds at each format, by the lengths of tables and of joined lists.
 use mathlib.Core.Path.{_≡_, refl, sym, ap, _∙_}
-use mathlib.Core.List.{List, [], _∷_, _++_, append-nil}
-use Prim.Native.Nat.{ℕ, zero, suc, _+_, _*_, _/_, _%_, _≤_}
+use mathlib.Core.List.{List, [], _++_, append-nil}
+use Prim.Native.Nat.{ℕ, zero, suc, _*_, _/_, _%_, _≤_}
 use native.Mathlib.Omega.{arith}
 use lib.Ieee.{Float}
 use lib.ListN.{length, getD, drop, drop-of-length-le}
 use borrow.Author.Tests.{ne-eqb}
+use Rattle.lists.specs.Bytes.{little}
 use Rattle.lists.specs.Chunks.{part, joined}
+use Rattle.lists.proofs.Bytes.{little-length}
 use Rattle.lists.proofs.Tab.{tab-length}
 use Rattle.lists.proofs.Joined.{joined-length}
 use Rattle.numbers.specs.Word.{float, bf16}
@@ -15,7 +17,7 @@ use Rattle.groups.specs.Group.{packed, unpacked, holds, packInto, unpackInto}
 use Rattle.groups.proofs.GroupLaws.{packed-length, unpacked-length}
 use Rattle.shapes.specs.Shape.{ofFormat, cellBytes, scaleWords}
 use Rattle.shapes.proofs.ShapeLaws.{of-format}
-use Rattle.rows.specs.Row.{group, groupScale, little, fromLittle, f32Cells, f32Numbers, bf16Cells, bf16Numbers, int8Cells, int8Scales, int8Numbers}
+use Rattle.rows.specs.Row.{group, groupScale, f32Cells, f32Numbers, bf16Cells, bf16Numbers, int8Cells, int8Scales, int8Numbers}
 use Rattle.rows.specs.Row.{int4Cells, int4Scales, int4Numbers, rowCells, rowScales, rowNumbers}
 
 -- a format past the first three picks the last case
@@ -33,10 +35,6 @@ lengths (suc (suc zero)) a b d e p q r s = r
 lengths (suc (suc (suc f))) a b d e p q r s =
     let h : 3 ≤ suc (suc (suc f)) = omega arith in
     ap length (of-int4 _ a b d e h) ∙ s h ∙ sym (of-int4 _ _ _ _ _ h)
-
-pub little-length : (k w : ℕ) → length (little k w) ≡ k
-unfolding little
-little-length k w = tab-length k _
 
 joined-little : (k n : ℕ) (f : ℕ → ℕ) → length (joined n (λ d. little k (f d))) ≡ n * k
 joined-little k n f = joined-length k n (λ d. little k (f d)) (λ i h. little-length k (f i))
@@ -65,18 +63,6 @@ row-numbers-length format n cells scales h =
     (tab-length n _)
     (λ w. omega (arith, rw of-int4 at h, joined-length 32 (n / 32) (λ g. unpacked (part (g * 16) 16 cells) (float (getD scales g 0))) (λ g b. unpacked-length _ _)))
     ∙ of-format (λ x. x ≡ n) format n n n n refl refl refl refl
-
--- the number that bytes make from place i on, by its lowest byte; none past the end
-pub from-byte : (l : List ℕ) (i : ℕ) → fromLittle (drop i l) ≡ getD l i 0 + 256 * fromLittle (drop (suc i) l)
-unfolding fromLittle
-from-byte [] zero = refl
-from-byte [] (suc i) = refl
-from-byte (x ∷ l) zero = refl
-from-byte (x ∷ l) (suc i) = from-byte l i
-
-pub from-end : (l : List ℕ) (k : ℕ) → length l ≡ k → fromLittle (drop k l) ≡ 0
-unfolding fromLittle
-from-end l k e = let h : length l ≤ k = omega arith in rw (drop-of-length-le l h)
 
 -- a list written over another of its length leaves nothing of it
 over : (x l : List ℕ) (k : ℕ) → length l ≡ k → x ++ drop k l ≡ x

@@ -1,23 +1,16 @@
 -- One head's numbers at one position, in each format: cells, scale words, and what they read as.
 -- The paper's sections Shape and room, for the bytes, and Codes.
-use Prim.Native.Nat.{ℕ, _+_, _*_, _/_, _%_, _^_}
+use Prim.Native.Nat.{ℕ, _*_, _/_}
 use mathlib.Core.List.{List, [], _∷_}
 use lib.ListN.{length, getD}
 use lib.Ieee.{Float}
+use Rattle.lists.specs.Bytes.{little, fromLittle}
 use Rattle.lists.specs.Chunks.{tab, joined, part}
 use Rattle.numbers.specs.Word.{float, word, bf16, fromBf16}
 use Rattle.numbers.specs.Scale.{scaleOf}
 use Rattle.numbers.specs.Code.{code8, read8}
 use Rattle.groups.specs.Group.{packed, unpacked}
 use Rattle.shapes.specs.Shape.{ofFormat}
-
--- the n bytes of a number, least significant first, and the number of such bytes
-unfoldable pub little : ℕ → ℕ → List ℕ
-little n w = tab n (λ i. w / 256 ^ i % 256)
-
-unfoldable pub fromLittle : List ℕ → ℕ
-fromLittle [] = 0
-fromLittle (byte ∷ bytes) = byte + 256 * fromLittle bytes
 
 -- F32: the bits of each number
 unfoldable pub f32Cells : List ℕ → List ℕ

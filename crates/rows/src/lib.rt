@@ -21,7 +21,8 @@ ghost use Rattle.replies.specs.Outcome.{answered};
 ghost use Rattle.numbers.specs.Word.{word};
 ghost use Rattle.numbers.specs.Scale.{scaleOf};
 ghost use Rattle.groups.specs.Group.{packed};
-ghost use Rattle.rows.specs.Row.{little, fromLittle, f32Cells, f32Numbers, bf16Cells, bf16Numbers, int8Cells, int8Scales, int8Numbers};
+ghost use Rattle.lists.specs.Bytes.{little, fromLittle};
+ghost use Rattle.rows.specs.Row.{f32Cells, f32Numbers, bf16Cells, bf16Numbers, int8Cells, int8Scales, int8Numbers};
 ghost use Rattle.rows.specs.Row.{int4Cells, int4Scales, int4Numbers};
 ghost use Rattle.rows.specs.Calls.{buffers, rowsFit, putRowOf, getRowOf};
 

@@ -9,7 +9,8 @@ use borrow.Author.Needs.{needs}
 use Rattle.lists.specs.Chunks.{tab, part}
 use Rattle.lists.proofs.Tab.{tab-set, tab-done}
 use Rattle.numbers.specs.Word.{fromBf16}
-use Rattle.rows.specs.Row.{fromLittle, bf16Numbers}
+use Rattle.lists.specs.Bytes.{fromLittle}
+use Rattle.rows.specs.Row.{bf16Numbers}
 use Rattle.rows.proofs.get_bf16.Statement.{statement}
 use Rattle.rows.proofs.get_bf16.Tie as tie
 

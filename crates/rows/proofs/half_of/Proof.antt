@@ -1,7 +1,7 @@
 -- Two bytes make a number, and nothing lies past them.
 use native.Mathlib.Omega.{arith}
 use borrow.Author.Needs.{needs}
-use Rattle.rows.proofs.RowLaws.{from-byte, from-end}
+use Rattle.lists.proofs.Bytes.{from-byte, from-end}
 use Rattle.rows.proofs.half_of.Statement.{statement}
 use Rattle.rows.proofs.half_of.Tie as tie
 

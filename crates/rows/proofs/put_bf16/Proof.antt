@@ -7,8 +7,9 @@ use borrow.Author.Needs.{needs}
 use Rattle.lists.specs.Chunks.{each}
 use Rattle.lists.proofs.Loop.{Passed, chunk-turn, over, over-done}
 use Rattle.numbers.specs.Word.{bf16}
-use Rattle.rows.specs.Row.{little, bf16Cells}
-use Rattle.rows.proofs.RowLaws.{little-length}
+use Rattle.lists.specs.Bytes.{little}
+use Rattle.rows.specs.Row.{bf16Cells}
+use Rattle.lists.proofs.Bytes.{little-length}
 use Rattle.rows.proofs.put_bf16.Statement.{statement}
 use Rattle.rows.proofs.put_bf16.Tie as tie
 

@@ -6,8 +6,9 @@ use lib.ListN.{length, getD, length-take, length-drop}
 use borrow.Author.Needs.{needs}
 use Rattle.lists.specs.Chunks.{each}
 use Rattle.lists.proofs.Loop.{Passed, chunk-turn, over, over-done}
-use Rattle.rows.specs.Row.{little, f32Cells}
-use Rattle.rows.proofs.RowLaws.{little-length}
+use Rattle.lists.specs.Bytes.{little}
+use Rattle.rows.specs.Row.{f32Cells}
+use Rattle.lists.proofs.Bytes.{little-length}
 use Rattle.rows.proofs.put_f32.Statement.{statement}
 use Rattle.rows.proofs.put_f32.Tie as tie
 

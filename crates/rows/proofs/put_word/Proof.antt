@@ -6,7 +6,7 @@ use lib.ListN.{length}
 use borrow.Author.Needs.{needs}
 use Rattle.lists.specs.Chunks.{tab}
 use Rattle.lists.proofs.Tab.{tab-set, tab-done}
-use Rattle.rows.specs.Row.{little}
+use Rattle.lists.specs.Bytes.{little}
 use Rattle.rows.proofs.put_word.Statement.{statement}
 use Rattle.rows.proofs.put_word.Tie as tie
 

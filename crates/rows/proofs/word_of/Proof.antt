@@ -1,8 +1,8 @@
 -- Four bytes make a number, and nothing lies past them.
 use native.Mathlib.Omega.{arith}
 use borrow.Author.Needs.{needs}
-use Rattle.rows.specs.Row.{fromLittle}
-use Rattle.rows.proofs.RowLaws.{from-byte, from-end}
+use Rattle.lists.specs.Bytes.{fromLittle}
+use Rattle.lists.proofs.Bytes.{from-byte, from-end}
 use Rattle.rows.proofs.word_of.Statement.{statement}
 use Rattle.rows.proofs.word_of.Tie as tie
 

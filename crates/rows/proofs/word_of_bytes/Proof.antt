@@ -1,7 +1,7 @@
 -- Two halves of two bytes each make the word.
 use native.Mathlib.Omega.{arith}
 use borrow.Author.Needs.{needs}
-use Rattle.rows.specs.Row.{fromLittle}
+use Rattle.lists.specs.Bytes.{fromLittle}
 use Rattle.rows.proofs.word_of_bytes.Statement.{statement}
 use Rattle.rows.proofs.word_of_bytes.Tie as tie
 
