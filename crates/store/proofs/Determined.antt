@@ -31,7 +31,7 @@ OneRecord o = (a a′ : Changed) → changed a ≡ o → changed a′ ≡ o → 
 abbrev pub OneCount : Outcome ℕ → Type 0
 OneCount o = (a a′ : Counted) → counted a ≡ o → counted a′ ≡ o → a ≡ a′
 
-one-store : (o : Outcome Store) → OneStore o
+pub one-store : (o : Outcome Store) → OneStore o
 one-store o a a′ c c′ w w′ e e′ =
     let s = coincide o (a .reply) (a′ .reply) _ _ e e′ in (
       same-changed a a′ (s .0) (ap (λ (x : Store). x .rec) (s .1)),
