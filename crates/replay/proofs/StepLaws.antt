@@ -1,0 +1,53 @@
+-- What each part of a step answers, put together.
+-- Each holds by the definition, at what the part before answered.
+use mathlib.Core.Path.{_≡_, sym, ap, _∙_}
+use mathlib.Core.List.{List, _++_}
+use Prim.Native.Nat.{ℕ, _+_, _-_, _*_, _≤_}
+use native.Mathlib.Omega.{arith}
+use lib.ListN.{length, take, drop}
+use lib.Seq.{take-at, length-front, length-take-le}
+use Rattle.replies.specs.Outcome.{Outcome}
+use Rattle.store.specs.declared.Changed.{Changed}
+use Rattle.store.specs.Calls.{Store, left}
+use Rattle.callfile.specs.declared.Entry.{Entry}
+use Rattle.callfile.specs.Format.{words, entryAt, sizeOf, placeAfter, wordsRead}
+use Rattle.callfile.proofs.FormatLaws.{words-length, words-read}
+use Rattle.lending.specs.Calls.{appendIn}
+use Rattle.replay.specs.declared.Told.{Told}
+use Rattle.replay.specs.Step.{Printed, Effect, answers, effectOf, walk, stepOf, effect, told}
+
+-- a side of which the first n words, y, were read: its length, and its numbers
+module _ (file : List ℕ) (at n : ℕ) (side y : List ℕ) (sized : 512 ≡ length side) (b : n ≤ 512) (f : at + 4 * n ≤ length file)
+    (e : y ≡ wordsRead file at (take (n - 0) side)) where
+  first : length (take n side) ≡ n
+  first = length-take-le n side (omega arith)
+
+  read : y ≡ words n file at
+  read =
+      let k : n - 0 ≡ n = omega arith in
+      let g : at + 4 * length (take n side) ≤ length file = rw first f in
+      e ∙ rw (k, words-read file at (take n side) g, first)
+
+  pub side-length : 512 ≡ length (y ++ drop (n - 0) side)
+  side-length =
+      let k : n - 0 ≡ n = omega arith in
+      sized ∙ sym (length-front side y (n - 0) (rw (k, first, read) (words-length n file at)))
+
+  pub side-read : take n (y ++ drop (n - 0) side) ≡ words n file at
+  side-read = rw read (take-at (words n file at) _ n (words-length n file at))
+
+-- an append of what is lent of both sides
+pub sides-lent : (n l : ℕ) (keys values : List ℕ) (held : Store) {k v : List ℕ} {o : Outcome Store} → take n keys ≡ k → take n values ≡ v
+    → o ≡ appendIn l (take (n - 0) keys) (take (n - 0) values) held → o ≡ appendIn l k v held
+sides-lent n l keys values held p q e = let z : n - 0 ≡ n = omega arith in rw (← p, ← q) (rw z at e)
+
+-- a call's answer, told
+pub answered-by : {a : Told} {r : Changed} {cells scales : List ℕ} {o : Outcome Store} → a ≡ told r → left r cells scales ≡ o → effect a cells scales ≡ answers o
+answered-by p q = rw p (ap answers q)
+
+-- a step, by what stands at its place and what that does
+pub step-done : (file : List ℕ) (at : ℕ) (held : Store) {e : Entry} {line : Printed} {after : Store} {next : ℕ} → e ≡ entryAt file at
+    → record { line = line; held = after } ≡ effectOf file at e held → next ≡ placeAfter file at
+    → record { line = line; after = walk next after } ≡ stepOf file (walk at held)
+unfolding stepOf
+step-done file at held {e} p q n = rw (n, ← p) (ap (λ (x : Effect). record { line = x .line; after = walk (at + sizeOf e) (x .held) }) q)

@@ -1,0 +1,93 @@
+-- What the record at a place of a call file does and has printed: the paper's section Call file.
+use Prim.Native.Nat.{ℕ}
+use mathlib.Core.Bool.{cond}
+use mathlib.Core.List.{List}
+use lib.Dec.{eqb}
+use lib.ListN.{take}
+use Rattle.replies.specs.Reply.{replyNumber}
+use Rattle.replies.specs.Outcome.{Outcome}
+use Rattle.rows.specs.Calls.{buffers}
+use Rattle.store.specs.Record.{seqLen}
+use Rattle.store.specs.Calls.{Store, store, advanceOf, memoryBytesOf}
+use Rattle.store.specs.declared.Changed.{Changed}
+use Rattle.store.specs.declared.Record.{Record}
+use Rattle.callfile.specs.Format.{entryAt, placeAfter, keysAt, valuesAt}
+use Rattle.callfile.specs.declared.Entry.{Entry}
+use Rattle.callfile.specs.declared.Entry.the-variants.{Open, Append, Truncate, Advance, Report, End, Bad}
+use Rattle.lending.specs.Calls.{openIn, appendIn, truncateIn}
+use Rattle.replay.specs.declared.Line.{Line}
+use Rattle.replay.specs.declared.Line.the-variants.{Answer, Counts, Stop, Nothing}
+use Rattle.replay.specs.declared.Told.{Told}
+use Rattle.replay.specs.declared.Stepped.{Stepped}
+
+-- a line of output: ok for 0 and no N for any other N; seq, bytes and a length per layer; bad at a place; none at the end
+pub data Printed : Type 0 where
+  answer : ℕ → Printed
+  report : ℕ → ℕ → List ℕ → Printed
+  badAt : ℕ → Printed
+  nothing : Printed
+
+-- what is printed, and the store afterwards
+pub record Effect : Type 0 where
+  pub line : Printed
+  pub held : Store
+
+abbrev pub answers : Outcome Store → Effect
+answers o = record { line = answer (o .reply); held = o .left }
+
+-- advance: the record alone
+unfoldable pub advanceIn : ℕ → Store → Outcome Store
+advanceIn n held = let o = advanceOf (held .rec) n in record { reply = o .reply; left = store (o .left) (held .lent) }
+
+-- a report: the sequence number, the byte count and the length of each layer
+abbrev pub reported : Record → ℕ → Printed
+reported r bytes = report (seqLen r) bytes (take (r .shape .layers) (r .lens))
+
+unfoldable pub reportOf : Record → Printed
+reportOf r = let o = memoryBytesOf r in cond (eqb (o .reply) 0) (reported r (o .left)) (answer (o .reply))
+
+-- what each kind of record does to the store
+abbrev pub effectOf : List ℕ → ℕ → Entry → Store → Effect
+effectOf file at (Open s) held = answers (openIn s held)
+effectOf file at (Append l n) held = answers (appendIn l (keysAt n file at) (valuesAt n file at) held)
+effectOf file at (Truncate l t) held = answers (truncateIn l t held)
+effectOf file at (Advance n) held = answers (advanceIn n held)
+effectOf file at Report held = record { line = reportOf (held .rec); held = held }
+effectOf file at End held = record { line = nothing; held = held }
+effectOf file at Bad held = record { line = badAt at; held = held }
+
+-- a place of the file, and the store there
+pub record Walk : Type 0 where
+  pub place : ℕ
+  pub held : Store
+
+abbrev pub walk : ℕ → Store → Walk
+walk place held = record { place = place; held = held }
+
+-- a step: what the record at the place has printed, and the walk past it
+pub record Step : Type 0 where
+  pub line : Printed
+  pub after : Walk
+
+unfoldable pub stepOf : List ℕ → Walk → Step
+stepOf file w =
+    let e = effectOf file (w .place) (entryAt file (w .place)) (w .held) in
+    record { line = e .line; after = walk (placeAfter file (w .place)) (e .held) }
+
+-- what a line says beside its record
+abbrev pub printed : Line → Record → Printed
+printed (Answer reply) r = answer (replyNumber reply)
+printed (Counts bytes) r = reported r bytes
+printed (Stop at) r = badAt at
+printed Nothing r = nothing
+
+-- what an answer and the lent memory say together
+abbrev pub effect : Told → List ℕ → List ℕ → Effect
+effect a cells scales = record { line = printed (a .line) (a .after); held = store (a .after) (buffers cells scales) }
+
+abbrev pub told : Changed → Told
+told a = record { line = Answer (a .reply); after = a .after }
+
+abbrev pub stepped : Stepped → List ℕ → List ℕ → Step
+stepped a cells scales =
+    record { line = printed (a .line) (a .after); after = walk (a .next) (store (a .after) (buffers cells scales)) }
