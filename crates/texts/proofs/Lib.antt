@@ -1,0 +1,3 @@
+pub mod DigitLaws
+pub mod LengthLaws
+pub mod PlaceLaws
