@@ -3,10 +3,10 @@
 use mathlib.Core.Path.{_≡_}
 use mathlib.Core.Bool.{Bool, true, false, cond}
 use mathlib.Core.List.{List, [], _∷_}
-use Prim.Native.Nat.{ℕ, suc, _≤_, _<_}
+use Prim.Native.Nat.{ℕ, suc, _+_, _≤_, _<_}
 use native.Mathlib.Omega.{arith}
 use lib.Dec.{eqb}
-use lib.ListN.{length, getD, drop, drop-of-length-le}
+use lib.ListN.{length, getD, drop, length-drop, drop-of-length-le}
 use lib.Seq.{drop-cons}
 use Rattle.lines.specs.Line.{lineLength}
 
@@ -27,3 +27,7 @@ line-within (b ∷ text) = at-first (eqb b 10) (line-within text)
 pub line-past : (text : List ℕ) (i : ℕ) → length text ≤ i → lineLength (drop i text) ≡ 0
 unfolding lineLength
 line-past text i h = rw drop-of-length-le
+
+-- a line of n bytes from a place of the text ends in the text
+pub line-in : (text : List ℕ) (at : ℕ) {n : ℕ} → at < length text → n ≡ lineLength (drop at text) → at + n ≤ length text
+line-in text at h e = omega (arith, line-within (drop at text), length-drop at text)

@@ -2,8 +2,8 @@
 use mathlib.Core.Path.{_≡_}
 use native.Mathlib.Omega.{arith}
 use Prim.Native.Nat.{_+_, _-_, _≤_}
-use lib.ListN.{length, drop, length-drop}
-use Rattle.lines.proofs.LineLaws.{line-within}
+use lib.ListN.{length}
+use Rattle.lines.proofs.LineLaws.{line-in}
 use borrow.Author.Needs.{needs}
 use Rattle.histories.proofs.calls.play.Statement.{statement}
 use Rattle.histories.proofs.calls.play.Tie as tie
@@ -22,11 +22,7 @@ line-length-requires c κs = search needs
 
 add-end : tie.Need-add-end Inv-loop μ-loop
 add-end c =
-    let text = c .before .before .before .before .before .before .args .text .now in
-    let rest = drop (c .before .before .loop .at) text in
-    let e = c .line-length .ensures in
-    let w = line-within rest in
-    let n = length-drop (c .before .before .loop .at) text in
+    let w = line-in (c .before .before .before .before .before .before .args .text .now) (c .before .before .loop .at) (c .before .loop-test .taken) (c .line-length .ensures) in
     record { fits = omega arith }
 
 sub-step : tie.Need-sub-step Inv-loop μ-loop
@@ -37,11 +33,7 @@ part-step-start c = search needs
 
 part-step-end : tie.Need-part-step-end Inv-loop μ-loop
 part-step-end c =
-    let text = c .before .before .before .before .before .before .args .text .now in
-    let rest = drop (c .before .before .loop .at) text in
-    let e = c .line-length .ensures in
-    let w = line-within rest in
-    let n = length-drop (c .before .before .loop .at) text in
+    let w = line-in (c .before .before .before .before .before .before .args .text .now) (c .before .before .loop .at) (c .before .loop-test .taken) (c .line-length .ensures) in
     omega arith
 
 step-requires : tie.Need-step-requires Inv-loop μ-loop
@@ -49,11 +41,7 @@ step-requires c κs = search needs
 
 add-at : tie.Need-add-at Inv-loop μ-loop
 add-at c =
-    let text = c .before .before .before .before .before .before .before .before .before .before .before .before .before .before .before .before .before .before .args .text .now in
-    let rest = drop (c .before .before .before .before .before .before .before .before .before .before .before .before .before .before .loop .at) text in
-    let e = c .before .before .before .before .before .before .before .before .before .before .before .before .line-length .ensures in
-    let w = line-within rest in
-    let n = length-drop (c .before .before .before .before .before .before .before .before .before .before .before .before .before .before .loop .at) text in
+    let w = line-in (c .before .before .before .before .before .before .before .before .before .before .before .before .before .before .before .before .before .before .args .text .now) (c .before .before .before .before .before .before .before .before .before .before .before .before .before .before .loop .at) (c .before .before .before .before .before .before .before .before .before .before .before .before .before .loop-test .taken) (c .before .before .before .before .before .before .before .before .before .before .before .before .line-length .ensures) in
     record { fits = omega arith }
 
 loop-less : tie.Need-loop-less Inv-loop μ-loop
@@ -61,11 +49,7 @@ loop-less c = search needs
 
 loop-again : tie.Need-loop-again Inv-loop μ-loop
 loop-again c =
-    let text = c .before .before .before .before .before .before .before .before .before .before .before .before .before .before .before .before .before .before .args .text .now in
-    let rest = drop (c .before .before .before .before .before .before .before .before .before .before .before .before .before .before .loop .at) text in
-    let e = c .before .before .before .before .before .before .before .before .before .before .before .before .line-length .ensures in
-    let w = line-within rest in
-    let n = length-drop (c .before .before .before .before .before .before .before .before .before .before .before .before .before .before .loop .at) text in
+    let w = line-in (c .before .before .before .before .before .before .before .before .before .before .before .before .before .before .before .before .before .before .args .text .now) (c .before .before .before .before .before .before .before .before .before .before .before .before .before .before .loop .at) (c .before .before .before .before .before .before .before .before .before .before .before .before .before .loop-test .taken) (c .before .before .before .before .before .before .before .before .before .before .before .before .line-length .ensures) in
     (omega arith, search needs, search needs)
 
 same-length : tie.Need-same-length Inv-loop μ-loop
