@@ -1,9 +1,11 @@
 //! The static library's functions, and a safe wrapper on slices for each.
-use crate::record::{Shape, WORDS};
+use crate::record::{Lent, Shape, WORDS};
 use crate::replies::{Head, Place};
 
 /// The reply of a call that was done.
 pub const DONE: u32 = 0;
+/// What a count holds before it is told.
+const DIRT: usize = 0xA5A5_A5A5;
 /// The reply to a group under 32 numbers or 16 bytes.
 pub const SHORT: u32 = 7;
 
@@ -29,6 +31,15 @@ extern "C" {
     ) -> u32;
     fn kv_f32_to_bf16(word: u32) -> u16;
     fn kv_bf16_to_f32(half: u16) -> u32;
+    fn kv_need(
+        format: u32,
+        layers: u32,
+        heads: u32,
+        head_size: u32,
+        capacity: u32,
+        cells: *mut usize,
+        scales: *mut usize,
+    ) -> u32;
     fn kv_open(
         rec: *mut u32,
         format: u32,
@@ -158,6 +169,26 @@ pub fn f32_to_bf16(word: u32) -> u16 {
 /// The word that a BF16 half reads as.
 pub fn bf16_to_f32(half: u16) -> u32 {
     unsafe { kv_bf16_to_f32(half) }
+}
+
+/// The reply to a shape, and what it needs.
+pub fn need(shape: &Shape) -> (u32, Lent) {
+    let mut need = Lent {
+        cells: DIRT,
+        scales: DIRT,
+    };
+    let reply = unsafe {
+        kv_need(
+            shape.format,
+            shape.layers,
+            shape.heads,
+            shape.head_size,
+            shape.capacity,
+            &mut need.cells,
+            &mut need.scales,
+        )
+    };
+    (reply, need)
 }
 
 /// What a call on a store is lent. It is open to changes even where the call only reads, so that those are seen.

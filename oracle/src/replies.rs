@@ -4,6 +4,11 @@ use crate::record::{Lent, Record, Shape, BF16, INT4, INT8};
 /// The largest cell total.
 pub const MOST_CELLS: u128 = 1_073_741_824;
 
+/// The reply to a question for a shape's need.
+pub fn need(shape: &Shape) -> u32 {
+    lowest(&[(1, is_outside(shape))])
+}
+
 /// The reply to an open.
 pub fn open(shape: &Shape, lent: Lent) -> u32 {
     lowest(&[(1, is_outside(shape)), (2, is_not_exact(shape, lent))])
@@ -129,7 +134,7 @@ fn is_outside(shape: &Shape) -> bool {
         && (1..=64).contains(&shape.heads)
         && (1..=256).contains(&shape.head_size)
         && (1..=4096).contains(&shape.capacity)
-        && (shape.format != INT4 || shape.head_size.is_multiple_of(32));
+        && (shape.format != INT4 || shape.head_size % 32 == 0);
     !within || shape.cells() > MOST_CELLS
 }
 
@@ -149,7 +154,7 @@ fn has_wrong_lengths(record: &Record) -> bool {
 
 /// Whether so many keys are not whole positions.
 fn is_torn(shape: &Shape, keys: usize) -> bool {
-    !(keys as u64).is_multiple_of(shape.position_numbers())
+    (keys as u64).checked_rem(shape.position_numbers()) != Some(0)
 }
 
 /// Whether the layer's length and the positions of so many keys exceed the capacity.

@@ -1,6 +1,7 @@
 -- The record and its 134 words say the same, both ways, so that a statement on the record fixes each word.
 -- Each holds since the words are six fields and then the lengths, as they stand in the record.
 use mathlib.Core.Path.{_≡_, refl, sym, ap, _∙_}
+use mathlib.Core.Bool.{true, false}
 use mathlib.Core.List.{List, [], _∷_, _++_}
 use Prim.Native.Nat.{ℕ, suc, _+_, _<_}
 use native.Mathlib.Omega.{arith}
@@ -8,13 +9,15 @@ use lib.ListN.{length, getD, set, drop, replicate}
 use lib.Seq.{drop-cons}
 use Rattle.lists.specs.Chunks.{tab}
 use Rattle.lists.proofs.Tab.{tab-set, tab-of, tab-done}
-use Rattle.replies.specs.Outcome.{Outcome}
-use Rattle.shapes.specs.Shape.{headSize}
+use Rattle.replies.specs.Outcome.{Outcome, outcome, lowest}
+use Rattle.shapes.specs.Shape.{headSize, within, needOf}
+use Rattle.shapes.specs.declared.Need.{Need}
+use Rattle.shapes.specs.declared.Shape.{Shape}
 use Rattle.rows.specs.Calls.{buffers}
 use Rattle.store.specs.Record.{seqLen}
 use Rattle.store.specs.Calls.{Store, store}
 use Rattle.store.specs.declared.Record.{Record}
-use Rattle.host.specs.Words.{recordOf, wordsOf, seen, told}
+use Rattle.host.specs.Words.{recordOf, wordsOf, needTold, seen, told}
 
 -- the words of a record, as a record
 pub record-words : (r : Record) → recordOf (wordsOf r) ≡ r
@@ -43,6 +46,15 @@ as-told p q e = rw (p, q) e
 pub as-seen : {n m : ℕ} {w w′ cells scales : List ℕ} {o : Outcome Store} → n ≡ m → w ≡ w′ → seen m w′ cells scales ≡ o
     → seen n w cells scales ≡ o
 as-seen {cells = cells} {scales = scales} p q e = as-told p (ap (λ (l : List ℕ). store (recordOf l) (buffers cells scales)) q) e
+
+-- what a shape inside the limits is told, and one outside them
+pub need-inside : (s : Shape) {n : ℕ} {x : Need} → within s ≡ true → n ≡ 0 → x ≡ needOf s → told n x ≡ needTold s
+unfolding needTold outcome lowest needOf
+need-inside s h e q = rw (e, q, h)
+
+pub need-outside : (s : Shape) {n : ℕ} {x : Need} → within s ≡ false → n ≡ 1 → x ≡ needOf s → told n x ≡ needTold s
+unfolding needTold outcome lowest needOf
+need-outside s h e q = rw (e, q, h)
 
 -- the loops: i values copied into 128 zeros
 abbrev pub copied : ℕ → (ℕ → ℕ) → List ℕ

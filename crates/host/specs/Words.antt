@@ -1,9 +1,11 @@
 -- The record as the host has it: 134 words, the shape, the sequence number, then the 128 lengths.
 use Prim.Native.Nat.{ℕ}
-use mathlib.Core.List.{List, _∷_}
+use mathlib.Core.Bool.{not}
+use mathlib.Core.List.{List, [], _∷_}
 use lib.ListN.{getD, drop}
-use Rattle.replies.specs.Outcome.{Outcome}
-use Rattle.shapes.specs.Shape.{headSize}
+use Rattle.replies.specs.Outcome.{_when_, Outcome, outcome}
+use Rattle.shapes.specs.Shape.{headSize, cellTotal, scaleTotal, within}
+use Rattle.shapes.specs.declared.Need.{Need}
 use Rattle.shapes.specs.declared.Shape.{Shape}
 use Rattle.rows.specs.Calls.{buffers}
 use Rattle.store.specs.Record.{seqLen}
@@ -28,6 +30,13 @@ wordsOf r =
 -- a reply's number beside the words, the cells and the scale words that are left
 abbrev pub seen : ℕ → List ℕ → List ℕ → List ℕ → Outcome Store
 seen reply words cells scales = record { reply = reply; left = store (recordOf words) (buffers cells scales) }
+
+abbrev pub need : ℕ → ℕ → Need
+need cells scales = record { cells = cells; scales = scales }
+
+-- what a shape needs, and whether it is inside the limits; nothing where it is not
+unfoldable pub needTold : Shape → Outcome Need
+needTold s = outcome ((1 when not (within s)) ∷ []) (need (cellTotal s) (scaleTotal s)) (need 0 0)
 
 abbrev pub told : {A : Type 0} → ℕ → A → Outcome A
 told reply x = record { reply = reply; left = x }

@@ -6,8 +6,11 @@ use numbers::scales;
 use numbers::words;
 use records::record_of;
 use records::words_of;
+use replies::Reply;
 use replies::number;
 use shapes::Shape;
+use shapes::is_within;
+use shapes::need_of;
 ghost use mathlib.Core.Path.{_≡_};
 ghost use Rattle.numbers.specs.Word.{word, bf16, fromBf16};
 ghost use Rattle.numbers.specs.Scale.{scaleOf};
@@ -16,7 +19,7 @@ ghost use Rattle.groups.specs.Group.{groupReply, packInto, unpackInto};
 ghost use Rattle.rows.specs.Calls.{buffers};
 ghost use Rattle.store.specs.Calls.{openOf, appendOf, truncateOf, advanceOf, cachedLenOf, memoryBytesOf, readOf};
 ghost use Rattle.heads.specs.Calls.{headScoresOf, headSumsOf};
-ghost use Rattle.host.specs.Words.{recordOf, shapeOf, seen, told};
+ghost use Rattle.host.specs.Words.{recordOf, shapeOf, need, needTold, seen, told};
 
 // The scale of an INT8 head.
 #[no_mangle]
@@ -90,6 +93,39 @@ pub extern "C" fn kv_bf16_to_f32(half: u16) -> u32
     ensures { λ r. ⌜ r ≡ fromBf16 half ⌝ }
 {
     words::bf16_to_f32(half)
+}
+
+// The lengths of the two buffers that a shape needs, in `cells` and `scales`.
+#[no_mangle]
+pub extern "C" fn kv_need(
+    format: u32,
+    layers: u32,
+    heads: u32,
+    head_size: u32,
+    capacity: u32,
+    cells: &mut usize,
+    scales: &mut usize,
+) -> u32
+    ensures { λ r.
+        ⌜
+        told r (need (now (cells .exit)) (now (scales .exit)))
+        ≡ needTold (shapeOf format layers heads «head_size» capacity)
+        ⌝ }
+{
+    let shape = Shape {
+        format,
+        layers,
+        heads,
+        head_size,
+        capacity,
+    };
+    let need = need_of(shape);
+    *cells = need.cells;
+    *scales = need.scales;
+    if !is_within(shape) {
+        return number(Reply::Shape);
+    }
+    number(Reply::Done)
 }
 
 // Makes an empty store in buffers of exactly the shape's need.

@@ -1,12 +1,13 @@
 //! The parts of the comparison.
 mod bf16;
-mod codes;
-mod groups;
+pub mod codes;
+pub mod groups;
 pub mod heads;
+pub mod needs;
 mod reading;
-mod scales;
-mod store;
-mod undo;
+pub mod scales;
+pub mod store;
+pub mod undo;
 
 use crate::part::{Part, Reach};
 
@@ -18,6 +19,7 @@ pub fn all(reach: Reach) -> Vec<Part> {
         groups::parts(reach),
         reading::parts(reach),
         bf16::parts(reach),
+        needs::parts(reach),
         store::parts(reach),
         heads::parts(reach),
         undo::parts(reach),

@@ -1,0 +1,45 @@
+-- Outside the limits there is no need and the reply is 1; inside, both totals.
+use borrow.Author.Needs.{needs}
+use Rattle.replies.proofs.Flags.{passed, failed}
+use Rattle.host.proofs.WordLaws.{need-inside, need-outside}
+use Rattle.host.proofs.kv_need.Statement.{statement}
+use Rattle.host.proofs.kv_need.Tie as tie
+
+need-of-requires : tie.Need-need-of-requires
+need-of-requires c κs = search needs
+
+is-within-requires : tie.Need-is-within-requires
+is-within-requires c κs = search needs
+
+number-requires : tie.Need-number-requires
+number-requires c κs = search needs
+
+returns : tie.Need-returns
+returns c =
+    need-outside
+    _
+    (failed (c .before .before .is-within .ensures) (c .before .if1 .taken))
+    (c .number .ensures)
+    (c .before .before .before .need-of .ensures)
+
+number-requires-2 : tie.Need-number-requires-2
+number-requires-2 c κs = search needs
+
+returns-2 : tie.Need-returns-2
+returns-2 c =
+    need-inside
+    _
+    (passed (c .before .before .is-within .ensures) (c .before .if1 .left))
+    (c .number2 .ensures)
+    (c .before .before .before .need-of .ensures)
+
+pub kv-need-spec : {M : Type 1} → statement M
+kv-need-spec =
+    tie.close
+    (tie.spec
+    need-of-requires
+    is-within-requires
+    number-requires
+    returns
+    number-requires-2
+    returns-2)
