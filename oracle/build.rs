@@ -20,10 +20,9 @@ fn main() {
     println!("cargo:rerun-if-changed={}", archive.display());
     if !archive.is_file() {
         let archive = archive.display();
-        eprintln!("{archive} is missing: make it with `rt staticlib host` at the repository's root, or name its folder in KV_LIB_DIR");
+        eprintln!("{archive} is missing: make it with `tools/archive` at the repository's root, or name its folder in KV_LIB_DIR");
         process::exit(1);
     }
     println!("cargo:rustc-link-search=native={}", folder.display());
     println!("cargo:rustc-link-lib=static=host");
-    println!("cargo:rustc-link-lib=m");
 }

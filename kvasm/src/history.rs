@@ -64,8 +64,7 @@ impl History {
         if left > append + number * MOST_NUMBERS {
             return self.append(0, MOST_NUMBERS - 8).filled_to(length);
         }
-        let fits =
-            |reports: &usize| (left - append - REPORT_BYTES * reports).is_multiple_of(number);
+        let fits = |reports: &usize| (left - append - REPORT_BYTES * reports) % number == 0;
         let reports = (0..number).find(fits).expect("3 and 8 share no factor");
         let numbers = (left - append - REPORT_BYTES * reports) / number;
         (0..reports).fold(self.append(0, numbers), |history, _| history.report())

@@ -63,7 +63,7 @@ impl Store {
     fn append(&mut self, layer: u16, numbers: usize) -> Result<(), Refusal> {
         let (position, capacity) = (self.shape.position_numbers(), self.shape.capacity);
         let length = self.layer_length(layer)?;
-        if !numbers.is_multiple_of(position) {
+        if numbers % position != 0 {
             return Err(TORN);
         }
         let longer = *length + (numbers / position) as u64;

@@ -48,7 +48,7 @@ impl Shape {
     /// Whether every limit holds, the one on all cells too.
     pub fn is_within_limits(&self) -> bool {
         let mut sizes = self.sizes().into_iter().zip(LIMITS);
-        let whole_groups = self.format != INT4 || self.head_size.is_multiple_of(GROUP);
+        let whole_groups = self.format != INT4 || self.head_size % GROUP == 0;
         self.format <= INT4
             && sizes.all(|(size, limit)| (1..=limit).contains(&size))
             && whole_groups

@@ -68,7 +68,7 @@ pub fn bf16_by_distance(word: u32) -> Option<u16> {
     let magnitude = f64::from(number.abs());
     let inwards = magnitude - bf16_magnitude(inner);
     let outwards = bf16_magnitude(outer) - magnitude;
-    let to_inner = inwards < outwards || (inwards == outwards && inner.is_multiple_of(2));
+    let to_inner = inwards < outwards || (inwards == outwards && inner % 2 == 0);
     Some(if to_inner { inner } else { outer })
 }
 

@@ -54,7 +54,7 @@ fn history((shape, piece): (Shape, u64)) -> Vec<Line> {
         }
     }
     lines.push(Line::Fresh);
-    if piece.is_multiple_of(2) {
+    if piece % 2 == 0 {
         let undone = (0..shape.layers).map(|layer| truncate(layer, 0));
         lines.extend(undone.map(Line::Step));
         lines.push(Line::Fresh);
