@@ -1,12 +1,18 @@
-//! The random numbers: splitmix64 from a fixed seed.
+//! The random numbers: splitmix64 from a fixed seed, or first what a tape says.
+use std::vec::IntoIter;
 
 /// The seed of every random input.
 pub const SEED: u64 = 0x6B76_6F72_6163_6C65;
 const STEP: u64 = 0x9E37_79B9_7F4A_7C15;
 
+/// Bytes of a tape that seed what the tape does not say.
+const SEED_BYTES: usize = 8;
+
 /// A generator of random numbers.
 pub struct Dice {
     state: u64,
+    tape: IntoIter<u8>,
+    is_taped: bool,
 }
 
 impl Dice {
@@ -17,23 +23,59 @@ impl Dice {
             .fold(SEED, |state, byte| mixed(state ^ u64::from(byte)));
         Dice {
             state: mixed(state ^ piece),
+            tape: Vec::new().into_iter(),
+            is_taped: false,
         }
     }
 
-    /// The next 64 random bits.
-    pub fn bits(&mut self) -> u64 {
+    /// The generator that a tape drives: a seed, then a byte or four for each choice, as long as there are some.
+    pub fn on_tape(tape: &[u8]) -> Dice {
+        let (seed, tape) = tape.split_at(tape.len().min(SEED_BYTES));
+        Dice {
+            state: number_of(seed),
+            tape: Vec::from(tape).into_iter(),
+            is_taped: true,
+        }
+    }
+
+    /// Whether there is more to make: always, save at the end of a tape.
+    pub fn goes_on(&self) -> bool {
+        !self.is_taped || self.tape.len() > 0
+    }
+
+    /// The next bytes of the tape as a number, where there are so many.
+    fn taken(&mut self, bytes: usize) -> Option<u64> {
+        let front = self.tape.as_slice().get(..bytes).map(number_of)?;
+        self.tape.nth(bytes - 1);
+        Some(front)
+    }
+
+    /// The next 64 random bits, of which no tape says anything.
+    fn bits(&mut self) -> u64 {
         self.state = self.state.wrapping_add(STEP);
         mixed(self.state)
     }
 
     /// A random word, every pattern equally likely.
     pub fn word(&mut self) -> u32 {
+        match self.taken(4) {
+            Some(word) => word as u32,
+            None => self.mixed_word(),
+        }
+    }
+
+    /// A random word, of which no tape says anything.
+    fn mixed_word(&mut self) -> u32 {
         (self.bits() >> 32) as u32
     }
 
     /// A random whole number below `bound`.
     pub fn below(&mut self, bound: u32) -> u32 {
-        ((u64::from(self.word()) * u64::from(bound)) >> 32) as u32
+        let few = if bound <= 256 { self.taken(1) } else { None };
+        match few {
+            Some(byte) => ((byte * u64::from(bound)) >> 8) as u32,
+            None => ((u64::from(self.word()) * u64::from(bound)) >> 32) as u32,
+        }
     }
 
     /// A random length or place below `bound`.
@@ -46,15 +88,22 @@ impl Dice {
         low + self.below((high - low + 1) as u32) as i32
     }
 
-    /// Random bytes.
+    /// Random bytes; a tape is too short for them.
     pub fn bytes(&mut self, length: usize) -> Vec<u8> {
-        (0..length).map(|_| self.word() as u8).collect()
+        (0..length).map(|_| self.mixed_word() as u8).collect()
     }
 
-    /// Random words, every pattern equally likely.
+    /// Random words, every pattern equally likely; a tape is too short for them.
     pub fn words(&mut self, length: usize) -> Vec<u32> {
-        (0..length).map(|_| self.word()).collect()
+        (0..length).map(|_| self.mixed_word()).collect()
     }
+}
+
+/// Bytes as a number, the first one the lowest.
+fn number_of(bytes: &[u8]) -> u64 {
+    bytes
+        .iter()
+        .rfold(0, |number, byte| number << 8 | u64::from(*byte))
 }
 
 /// The mixing step of splitmix64.
@@ -62,4 +111,38 @@ fn mixed(state: u64) -> u64 {
     let state = (state ^ (state >> 30)).wrapping_mul(0xBF58_476D_1CE4_E5B9);
     let state = (state ^ (state >> 27)).wrapping_mul(0x94D0_49BB_1331_11EB);
     state ^ (state >> 31)
+}
+
+#[cfg(test)]
+mod tests {
+    use super::*;
+
+    /// A tape with a seed of so many equal bytes and some choices after it.
+    fn tape(seed: u8, choices: &[u8]) -> Vec<u8> {
+        [&[seed; SEED_BYTES], choices].concat()
+    }
+
+    #[test]
+    fn a_tape_makes_the_choices_and_ends() {
+        let mut dice = Dice::on_tape(&tape(0, &[0x80, 0x78, 0x56, 0x34, 0x12]));
+        assert_eq!(dice.below(8), 4);
+        assert!(dice.goes_on());
+        assert_eq!(dice.word(), 0x1234_5678);
+        assert!(!dice.goes_on());
+        assert!(dice.below(8) < 8);
+    }
+
+    #[test]
+    fn what_is_too_long_for_a_tape_comes_from_its_seed() {
+        let filled = |seed, choices| Dice::on_tape(&tape(seed, choices)).bytes(16);
+        assert_eq!(filled(1, &[2]), filled(1, &[3, 4]));
+        assert_ne!(filled(1, &[2]), filled(5, &[2]));
+    }
+
+    #[test]
+    fn dice_without_a_tape_go_on() {
+        let mut dice = Dice::of("part", 0);
+        let _ = dice.words(100);
+        assert!(dice.goes_on());
+    }
 }

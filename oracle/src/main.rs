@@ -1,45 +1,13 @@
-//! Holds the static library's answers to those of the lifted Rust.
-mod boundary;
-mod calls;
-mod dice;
-mod differences;
-mod draws;
-mod game;
-mod heads;
-mod histories;
-mod mishaps;
-mod ours;
-mod part;
-mod parts;
-mod patterns;
-mod record;
-mod replies;
-mod rows;
-mod rules;
-#[allow(dead_code, clippy::needless_range_loop)]
-mod rust;
-#[allow(clippy::needless_range_loop)]
-mod rust_heads;
-#[allow(dead_code, unknown_lints, clippy::needless_range_loop)]
-#[allow(clippy::upper_case_acronyms, clippy::manual_checked_ops)]
-mod rust_store;
-mod shapes;
-mod speed;
-mod summands;
-mod survivors;
-mod tally;
-mod vectors;
-mod wanted;
-mod words;
-
-use part::{Part, Reach};
+//! The commands of the comparison.
+use oracle::part::{Part, Reach};
+use oracle::tally::Tally;
+use oracle::{dice, histories, parts, speed, vectors};
 use std::env;
 use std::ffi::{OsStr, OsString};
 use std::io;
 use std::path::Path;
 use std::process::ExitCode;
 use std::time::Instant;
-use tally::Tally;
 
 const USAGE: &str =
     "usage: oracle sweep | oracle slice | oracle speed | oracle vectors DIR | oracle histories DIR";

@@ -63,6 +63,12 @@ fn random_pairs(piece: u64, tally: &mut Tally) {
     }
 }
 
+/// Both codes of a pair that the dice make.
+pub fn play(dice: &mut Dice, tally: &mut Tally) {
+    let (word, scale) = pair(dice);
+    codes(word, scale, tally);
+}
+
 /// A number and a scale, often with a quotient near a half.
 fn pair(dice: &mut Dice) -> (u32, u32) {
     match dice.below(8) {

@@ -55,6 +55,13 @@ fn each_length(piece: u64, tally: &mut Tally) {
     }
 }
 
+/// Both calls with lengths about those of a group.
+pub fn play(dice: &mut Dice, tally: &mut Tally) {
+    let (numbers, bytes) = (dice.place(LENGTHS), dice.place(LENGTHS));
+    pack(numbers, bytes, dice, tally);
+    unpack(numbers, bytes, dice, tally);
+}
+
 /// Compares the reply and every byte of packing so many numbers into so many bytes.
 fn pack(numbers: usize, bytes: usize, dice: &mut Dice, tally: &mut Tally) {
     let run = words::run(numbers, dice);

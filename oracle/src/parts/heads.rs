@@ -31,14 +31,21 @@ pub fn parts(reach: Reach) -> Vec<Part> {
 
 /// Calls on one store, up to the first difference.
 fn store(piece: u64, tally: &mut Tally) {
-    let mut dice = Dice::of("heads", piece);
-    let Start { holdings, steps } = start(&mut dice);
+    play(piece, &mut Dice::of("heads", piece), tally)
+}
+
+/// Calls that the dice make.
+pub fn play(piece: u64, dice: &mut Dice, tally: &mut Tally) {
+    let Start { holdings, steps } = start(dice);
     let mut game = Game::new(piece, holdings);
     if !game.steps(&steps, tally) {
         return;
     }
     for _ in 0..TURNS {
-        let steps = turn(&game.wanted.holdings, &mut dice);
+        if !dice.goes_on() {
+            break;
+        }
+        let steps = turn(&game.wanted.holdings, dice);
         if !game.steps(&steps, tally) {
             return;
         }
@@ -87,16 +94,16 @@ mod tests {
             let mut dice = Dice::of("heads", piece);
             let Start { holdings, steps } = start(&mut dice);
             let mut wanted = Wanted::new(holdings);
-            play(&steps, &mut wanted, &mut show);
+            show_steps(&steps, &mut wanted, &mut show);
             for _ in 0..TURNS {
                 let steps = turn(&wanted.holdings, &mut dice);
-                play(&steps, &mut wanted, &mut show);
+                show_steps(&steps, &mut wanted, &mut show);
             }
         }
     }
 
     /// Plays some steps, and shows each call on a head.
-    fn play(
+    fn show_steps(
         steps: &[Step],
         wanted: &mut Wanted,
         show: &mut impl FnMut(&Call, &Answer, &mut Wanted),

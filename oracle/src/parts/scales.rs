@@ -37,6 +37,12 @@ fn scales(run: &[u32], numbers: &[f32], tally: &mut Tally) {
     );
 }
 
+/// Both scales of a run that the dice make.
+pub fn play(dice: &mut Dice, tally: &mut Tally) {
+    let run = words::run(dice.place(LONGEST as usize + 1), dice);
+    scales(&run, &words::numbers(&run), tally);
+}
+
 /// Runs of one length.
 fn runs(piece: u64, tally: &mut Tally) {
     let mut dice = Dice::of("runs", piece);

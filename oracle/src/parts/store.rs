@@ -31,11 +31,15 @@ pub fn parts(reach: Reach) -> Vec<Part> {
 
 /// One sequence, up to its first difference.
 fn sequence(piece: u64, tally: &mut Tally) {
-    let mut dice = Dice::of("calls", piece);
-    let script = Script::new(&mut dice);
-    let mut game = Game::new(piece, script.holdings(&mut dice));
-    while game.calls < CALLS {
-        let steps = script.turn(&game.wanted.holdings, &mut dice);
+    play(piece, &mut Dice::of("calls", piece), tally)
+}
+
+/// The sequence that the dice make.
+pub fn play(piece: u64, dice: &mut Dice, tally: &mut Tally) {
+    let script = Script::new(dice);
+    let mut game = Game::new(piece, script.holdings(dice));
+    while game.calls < CALLS && dice.goes_on() {
+        let steps = script.turn(&game.wanted.holdings, dice);
         if !game.steps(&steps, tally) {
             return;
         }

@@ -33,16 +33,20 @@ pub fn parts(reach: Reach) -> Vec<Part> {
 
 /// One sequence, up to its first difference.
 fn sequence(piece: u64, tally: &mut Tally) {
-    let mut dice = Dice::of("undo", piece);
-    let (mut trial, mut steps) = start(piece, &mut dice);
-    while trial.calls < CALLS {
+    play(piece, &mut Dice::of("undo", piece), tally)
+}
+
+/// The sequence that the dice make.
+pub fn play(piece: u64, dice: &mut Dice, tally: &mut Tally) {
+    let (mut trial, mut steps) = start(piece, dice);
+    while trial.calls == 0 || (trial.calls < CALLS && dice.goes_on()) {
         if !steps.iter().all(|step| trial.step(step, tally)) {
             return;
         }
-        steps = turn(&trial.played.holdings, &mut dice);
+        steps = turn(&trial.played.holdings, dice);
     }
     if trial.call(&Call::MemoryBytes, true, tally) {
-        trial.ask_all(&mut dice, tally);
+        trial.ask_all(dice, tally);
     }
 }
 
