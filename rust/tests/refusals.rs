@@ -3,11 +3,9 @@ mod common;
 
 use common::desk::{token, Desk};
 use common::dice::Dice;
-use common::{bits, row_size, shape, with, FIELDS, FORMATS, REFUSALS, SIDES};
-use karonjeenu::{Format, Refusal, Shape, Side, Store};
+use common::{row_size, shape, with, FIELDS, FORMATS, REFUSALS, SIDES};
+use karonjeenu::{Format, Refusal, Side, Store};
 use std::collections::BTreeSet;
-use std::process::Command;
-use std::{env, panic};
 
 /// Positions in each layer of a store that calls are tried on.
 const LENGTH: usize = 2;
@@ -342,54 +340,4 @@ fn debug_tells_no_contents() {
         "{told}"
     );
     assert!(!told.contains("171") && told.len() < 300, "{told}");
-}
-
-/// Said to the test below when it runs under a limit of its memory.
-const UNDER_A_LIMIT: &str = "KV_TEST_UNDER_A_LIMIT";
-
-#[test]
-fn lack_of_memory_is_refused() {
-    if env::var_os(UNDER_A_LIMIT).is_some() {
-        return lacks_memory();
-    }
-    let program = env::current_exe().expect("this program");
-    let mut limited = Command::new("sh");
-    limited.args([
-        "-c",
-        "ulimit -v 524288 && exec \"$0\" --exact lack_of_memory_is_refused",
-    ]);
-    let output = limited
-        .arg(program)
-        .env(UNDER_A_LIMIT, "")
-        .output()
-        .expect("a shell");
-    assert!(
-        output.status.success(),
-        "{}",
-        String::from_utf8_lossy(&output.stdout)
-    );
-}
-
-/// Under a limit of 512 MiB: a store of 1 GiB cannot be opened, and one of 256 MiB opens and cannot be copied.
-fn lacks_memory() {
-    let most = Shape {
-        format: Format::F32,
-        layers: 2,
-        heads: 64,
-        head_size: 256,
-        capacity: 4096,
-    };
-    assert!(most.need().is_ok());
-    assert_eq!(Store::open(most), Err(Refusal::Memory));
-    let one = with(most, "capacity", 1024);
-    let mut store = Store::open(one).expect("memory for one");
-    assert_eq!(store.try_clone(), Err(Refusal::Memory));
-    assert!(panic::catch_unwind(|| store.clone()).is_err());
-    let row = vec![1.0; row_size(most)];
-    store.append(1, &row, &row).expect("the store goes on");
-    let mut out = vec![0.0; most.head_size];
-    store
-        .read_row(1, Side::Values, 63, 0, &mut out)
-        .expect("a row");
-    assert_eq!(bits(&out), bits(&row[..most.head_size]));
 }
