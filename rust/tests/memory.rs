@@ -48,7 +48,11 @@ fn lack_of_memory_is_refused() {
     assert_eq!(Store::open(most), Err(Refusal::Memory));
     let mut store = Store::open(with(most, "capacity", 128)).expect("memory for one");
     assert_eq!(store.try_clone(), Err(Refusal::Memory));
-    assert!(panic::catch_unwind(|| store.clone()).is_err());
+    // A panic that prints a backtrace wants memory of its own.
+    panic::set_hook(Box::new(|_| ()));
+    let cloned = panic::catch_unwind(|| store.clone());
+    drop(panic::take_hook());
+    assert!(cloned.is_err());
     let row = vec![1.0; row_size(most)];
     store.append(1, &row, &row).expect("the store goes on");
     let mut out = vec![0.0; most.head_size];
