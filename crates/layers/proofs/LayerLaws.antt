@@ -30,7 +30,7 @@ module _ (b : ℕ) (s : Shape) (p : ℕ) where
   unfolding put joined
   put-none rows x = at-id (p * b) (0 * b) (λ _. joined 0 rows) x (rw zero-mul)
 
-  side-none : (rows : ℕ → ℕ → List ℕ) (x : List ℕ) → putSide b s p 0 rows x ≡ x
+  pub side-none : (rows : ℕ → ℕ → List ℕ) (x : List ℕ) → putSide b s p 0 rows x ≡ x
   unfolding putSide
   side-none rows x = each-id (blockSize b s) (s .heads) (λ h. put b p 0 (rows h)) x (λ h w. put-none (rows h) _)
 

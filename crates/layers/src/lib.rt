@@ -139,8 +139,8 @@ fn put_sides(
 {
     let c = cells.len() / 2;
     let w = scales.len() / 2;
-    put_side(shape, p, n, keys, &mut cells[0..c], &mut scales[0..w]);
-    put_side(
+    put_positions(shape, p, n, keys, &mut cells[0..c], &mut scales[0..w]);
+    put_positions(
         shape,
         p,
         n,
@@ -159,6 +159,29 @@ fn clear_sides(shape: Shape, p: usize, n: usize, cells: &mut [u8], scales: &mut 
     let w = scales.len() / 2;
     clear_side(shape, p, n, &mut cells[0..c], &mut scales[0..w]);
     clear_side(shape, p, n, &mut cells[c..c + c], &mut scales[w..w + w]);
+}
+
+// One position after the other, since their numbers lie so: memory is read in its order, and each head's block grows.
+fn put_positions(
+    shape: Shape,
+    p: usize,
+    n: usize,
+    numbers: &[u32],
+    cells: &mut [u8],
+    scales: &mut [u32],
+)
+    requires { ⌜ Fits sideSize shape p n (length (now cells)) (length (now scales)) ⌝ }
+    requires { ⌜ length (now numbers) ≡ n * width shape ⌝ }
+    ensures cells { λ _. ⌜ now (cells .exit) ≡ putSide (bytesOf shape) shape p n (cellRow shape (now (numbers .entry))) (now (cells .entry)) ⌝ }
+    ensures scales { λ _. ⌜ now (scales .exit) ≡ putSide (wordsOf shape) shape p n (scaleRow shape (now (numbers .entry))) (now (scales .entry)) ⌝ }
+{
+    let width = shape.heads as usize * shape.head_size as usize;
+    let mut j = 0;
+    while j < n {
+        let a = j * width;
+        put_side(shape, p + j, 1, &numbers[a..a + width], cells, scales);
+        j += 1;
+    }
 }
 
 fn put_side(shape: Shape, p: usize, n: usize, numbers: &[u32], cells: &mut [u8], scales: &mut [u32])

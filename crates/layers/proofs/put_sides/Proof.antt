@@ -18,71 +18,71 @@ cells-sides c = record { span = c .pre .0 .span; sized = cell-layer _ _ (c .pre 
 words-sides : (c : tie.Start) → let a = c .args in Sides (wordsOf (a .shape)) (a .shape) (a .p) (a .n) (λ side. scaleRow (a .shape) (sideOf (a .keys .now) (a .values .now) side)) (a .scales .now)
 words-sides c = record { span = c .pre .0 .span; sized = scale-layer _ _ (c .pre .0 .in-limits) _ _ (c .pre .1 .0) (c .pre .1 .1); whole = c .pre .0 .scale-size }
 
-sub-put-side : tie.Need-sub-put-side
-sub-put-side c = search needs
+sub-put-positions : tie.Need-sub-put-positions
+sub-put-positions c = search needs
 
-part-put-side-start : tie.Need-part-put-side-start
-part-put-side-start c = search needs
+part-put-positions-start : tie.Need-part-put-positions-start
+part-put-positions-start c = search needs
 
-part-put-side-end : tie.Need-part-put-side-end
-part-put-side-end c = search needs
+part-put-positions-end : tie.Need-part-put-positions-end
+part-put-positions-end c = search needs
 
-sub-put-side-2 : tie.Need-sub-put-side-2
-sub-put-side-2 c = search needs
+sub-put-positions-2 : tie.Need-sub-put-positions-2
+sub-put-positions-2 c = search needs
 
-part-put-side-start-2 : tie.Need-part-put-side-start-2
-part-put-side-start-2 c = search needs
+part-put-positions-start-2 : tie.Need-part-put-positions-start-2
+part-put-positions-start-2 c = search needs
 
-part-put-side-end-2 : tie.Need-part-put-side-end-2
-part-put-side-end-2 c = search needs
+part-put-positions-end-2 : tie.Need-part-put-positions-end-2
+part-put-positions-end-2 c = search needs
 
-put-side-requires : tie.Need-put-side-requires
-put-side-requires c κs =
+put-positions-requires : tie.Need-put-positions-requires
+put-positions-requires c κs =
     let a = c .before .before .before .before .before .before in (
       record {
         in-limits = a .pre .0 .in-limits;
         span = a .pre .0 .span;
-        cell-size = c .before .put-side-arg .given .2 ∙ lent-count 0 (zero-add _) (half (cells-sides a));
-        scale-size = c .put-side-arg2 .given .2 ∙ lent-count 0 (zero-add _) (half (words-sides a));
+        cell-size = c .before .put-positions-arg .given .2 ∙ lent-count 0 (zero-add _) (half (cells-sides a));
+        scale-size = c .put-positions-arg2 .given .2 ∙ lent-count 0 (zero-add _) (half (words-sides a));
       },
       search (a .pre .1),
     )
 
-add-put-side : tie.Need-add-put-side
-add-put-side c = search needs
+add-put-positions : tie.Need-add-put-positions
+add-put-positions c = search needs
 
-sub-put-side-3 : tie.Need-sub-put-side-3
-sub-put-side-3 c = search needs
+sub-put-positions-3 : tie.Need-sub-put-positions-3
+sub-put-positions-3 c = search needs
 
-part-put-side-start-3 : tie.Need-part-put-side-start-3
-part-put-side-start-3 c = search needs
+part-put-positions-start-3 : tie.Need-part-put-positions-start-3
+part-put-positions-start-3 c = search needs
 
-part-put-side-end-3 : tie.Need-part-put-side-end-3
-part-put-side-end-3 c = omega (arith, c .before .before .before .cells .given .1)
+part-put-positions-end-3 : tie.Need-part-put-positions-end-3
+part-put-positions-end-3 c = omega (arith, c .before .before .before .cells .given .1)
 
-add-put-side-2 : tie.Need-add-put-side-2
-add-put-side-2 c = search needs
+add-put-positions-2 : tie.Need-add-put-positions-2
+add-put-positions-2 c = search needs
 
-mul-put-side : tie.Need-mul-put-side
-mul-put-side c = search needs
+mul-put-positions : tie.Need-mul-put-positions
+mul-put-positions c = search needs
 
-sub-put-side-4 : tie.Need-sub-put-side-4
-sub-put-side-4 c = search needs
+sub-put-positions-4 : tie.Need-sub-put-positions-4
+sub-put-positions-4 c = search needs
 
-part-put-side-start-4 : tie.Need-part-put-side-start-4
-part-put-side-start-4 c = search needs
+part-put-positions-start-4 : tie.Need-part-put-positions-start-4
+part-put-positions-start-4 c = search needs
 
-part-put-side-end-4 : tie.Need-part-put-side-end-4
-part-put-side-end-4 c = omega (arith, c .before .before .scales .given .1)
+part-put-positions-end-4 : tie.Need-part-put-positions-end-4
+part-put-positions-end-4 c = omega (arith, c .before .before .scales .given .1)
 
-put-side-requires-2 : tie.Need-put-side-requires-2
-put-side-requires-2 c κs =
+put-positions-requires-2 : tie.Need-put-positions-requires-2
+put-positions-requires-2 c κs =
     let a = c .before .before .before .before .before .before .before .before .before .before .before .before .before in (
       record {
         in-limits = a .pre .0 .in-limits;
         span = a .pre .0 .span;
-        cell-size = c .before .put-side-arg3 .given .2 ∙ lent-count _ refl (half (cells-sides a));
-        scale-size = c .put-side-arg4 .given .2 ∙ lent-count _ refl (half (words-sides a));
+        cell-size = c .before .put-positions-arg3 .given .2 ∙ lent-count _ refl (half (cells-sides a));
+        scale-size = c .put-positions-arg4 .given .2 ∙ lent-count _ refl (half (words-sides a));
       },
       search (a .pre .1),
     )
@@ -97,31 +97,31 @@ same-length-2 c = c .before .scales2 .given .1 ∙ c .before .before .before .be
 returns : tie.Need-returns
 returns c =
     let a = c .before .before .before .before .before .before .before .before .before .before .before .before .before .before .before .before .before .before in
-    let y = c .before .before .before .before .before .before .before .before .before .before .before .put-side .ensures in
-    let z = c .before .before .before .before .put-side2 .ensures in
+    let y = c .before .before .before .before .before .before .before .before .before .before .before .put-positions .ensures in
+    let z = c .before .before .before .before .put-positions2 .ensures in
     (sides-lent (cells-sides a) (y .0) (z .0), sides-lent (words-sides a) (y .1) (z .1))
 
 pub put-sides-spec : {M : Type 1} → statement M
 put-sides-spec =
     tie.close
     (tie.spec
-    sub-put-side
-    part-put-side-start
-    part-put-side-end
-    sub-put-side-2
-    part-put-side-start-2
-    part-put-side-end-2
-    put-side-requires
-    add-put-side
-    sub-put-side-3
-    part-put-side-start-3
-    part-put-side-end-3
-    add-put-side-2
-    mul-put-side
-    sub-put-side-4
-    part-put-side-start-4
-    part-put-side-end-4
-    put-side-requires-2
+    sub-put-positions
+    part-put-positions-start
+    part-put-positions-end
+    sub-put-positions-2
+    part-put-positions-start-2
+    part-put-positions-end-2
+    put-positions-requires
+    add-put-positions
+    sub-put-positions-3
+    part-put-positions-start-3
+    part-put-positions-end-3
+    add-put-positions-2
+    mul-put-positions
+    sub-put-positions-4
+    part-put-positions-start-4
+    part-put-positions-end-4
+    put-positions-requires-2
     same-length
     same-length-2
     returns)

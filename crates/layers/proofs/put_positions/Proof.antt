@@ -1,0 +1,144 @@
+-- The positions passed have their rows, and each turn writes one more in every head.
+use mathlib.Core.Path.{refl, sym, _∙_}
+use Prim.Native.Nat.{_+_, _-_, _*_, _≤_}
+use native.Mathlib.Nat.{le-add-right, one-mul}
+use native.Mathlib.Omega.{arith}
+use borrow.Author.Count.{falls}
+use borrow.Author.Needs.{needs}
+use lib.ListN.{length}
+use Rattle.lists.proofs.Part.{room, lent-count}
+use Rattle.shapes.specs.Shape.{bytesOf, wordsOf, width}
+use Rattle.shapes.proofs.ShapeLaws.{width-in}
+use Rattle.rows.specs.Row.{rowCells, rowScales}
+use Rattle.layers.proofs.PositionLaws.{Positions, Known, no-positions, position-turn, positions-done}
+use Rattle.layers.proofs.RunLaws.{cell-rows, scale-rows}
+use Rattle.layers.proofs.put_positions.Statement.{statement}
+use Rattle.layers.proofs.put_positions.Tie as tie
+
+abbrev Inv-loop : tie.InvT-loop
+Inv-loop shape p n numbers cells₀ scales₀ width j₀ cells scales j =
+    Positions (bytesOf shape) shape p n (rowCells (shape .format)) numbers cells₀ j cells
+    × Positions (wordsOf shape) shape p n (rowScales (shape .format)) numbers scales₀ j scales
+
+abbrev μ-loop : tie.MeasureT-loop
+μ-loop shape p n numbers cells₀ scales₀ width j₀ cells scales j = n - j
+
+-- what the loop over the positions knows of each buffer
+cells-known : (c : tie.At-loop Inv-loop μ-loop)
+    → let a = c .before .before .before .before .before .before .args in
+    Known (bytesOf (a .shape)) (a .shape) (a .p) (a .n) (rowCells (a .shape .format)) (a .numbers .now) (a .cells .now)
+cells-known c =
+    let a = c .before .before .before .before .before .before .pre in
+    record { span = a .0 .span; sized = cell-rows _ _ (a .0 .in-limits) _ (a .1); whole = a .0 .cell-size }
+
+words-known : (c : tie.At-loop Inv-loop μ-loop)
+    → let a = c .before .before .before .before .before .before .args in
+    Known (wordsOf (a .shape)) (a .shape) (a .p) (a .n) (rowScales (a .shape .format)) (a .numbers .now) (a .scales .now)
+words-known c =
+    let a = c .before .before .before .before .before .before .pre in
+    record { span = a .0 .span; sized = scale-rows _ _ (a .0 .in-limits) _ (a .1); whole = a .0 .scale-size }
+
+-- the position's numbers lie in the slice
+run-in : (c : tie.In-loop Inv-loop μ-loop)
+    → let a = c .before .before .before .before .before .before .before .args in
+    c .before .loop .j * width (a .shape) + width (a .shape) ≤ length (a .numbers .now)
+run-in c =
+    let a = c .before .before .before .before .before .before .before in
+    rw (a .pre .1) (room (width (a .args .shape)) (c .loop-test .taken))
+
+cast-width : tie.Need-cast-width Inv-loop μ-loop
+cast-width c = search needs
+
+cast-width-2 : tie.Need-cast-width-2 Inv-loop μ-loop
+cast-width-2 c = search needs
+
+mul-width : tie.Need-mul-width Inv-loop μ-loop
+mul-width c = let a = c .before .before .before .before .before in omega (arith, width-in (a .args .shape) (a .pre .0 .in-limits))
+
+loop-holds : tie.Need-loop-holds Inv-loop μ-loop
+loop-holds c =
+    let a = c .before .before .before .before .before .args in
+    (no-positions _ _ _ _ (rowCells (a .shape .format)) (a .numbers .now) _, no-positions _ _ _ _ (rowScales (a .shape .format)) (a .numbers .now) _)
+
+mul-a : tie.Need-mul-a Inv-loop μ-loop
+mul-a c = omega (arith, run-in c)
+
+add-put-side : tie.Need-add-put-side Inv-loop μ-loop
+add-put-side c = let a = c .before .before .before .before .before .before .before in omega (arith, a .pre .0 .span)
+
+add-put-side-2 : tie.Need-add-put-side-2 Inv-loop μ-loop
+add-put-side-2 c = omega (arith, run-in c)
+
+mul-put-side : tie.Need-mul-put-side Inv-loop μ-loop
+mul-put-side c = omega (arith, run-in c)
+
+sub-put-side : tie.Need-sub-put-side Inv-loop μ-loop
+sub-put-side c = le-add-right _ _
+
+part-put-side-start : tie.Need-part-put-side-start Inv-loop μ-loop
+part-put-side-start c = le-add-right _ _
+
+part-put-side-end : tie.Need-part-put-side-end Inv-loop μ-loop
+part-put-side-end c = run-in c
+
+put-side-requires : tie.Need-put-side-requires Inv-loop μ-loop
+put-side-requires c κs =
+    let l = c .before .before .before .before in
+    let a = l .before .before .before .before .before .before in (
+      record {
+        in-limits = a .pre .0 .in-limits;
+        span = omega (arith, a .pre .0 .span, c .before .before .before .loop-test .taken);
+        cell-size = l .loop .inv .0 .2 ∙ a .pre .0 .cell-size;
+        scale-size = l .loop .inv .1 .2 ∙ a .pre .0 .scale-size;
+      },
+      c .before .before .put-side-arg .given .2 ∙ lent-count _ refl (sym (one-mul _)),
+    )
+
+add-j : tie.Need-add-j Inv-loop μ-loop
+add-j c = search needs
+
+loop-less : tie.Need-loop-less Inv-loop μ-loop
+loop-less c = falls _ _ (c .before .before .before .before .before .before .before .before .loop-test .taken)
+
+loop-again : tie.Need-loop-again Inv-loop μ-loop
+loop-again c =
+    let l = c .before .before .before .before .before .before .before .before .before in
+    let y = c .before .before .before .before .put-side .ensures in
+    let w = c .before .before .before .before .before .before .before .before .loop-test .taken in
+    (position-turn (cells-known l) (l .loop .inv .0) w refl (y .0), position-turn (words-known l) (l .loop .inv .1) w refl (y .1))
+
+same-length : tie.Need-same-length Inv-loop μ-loop
+same-length c = c .before .loop .inv .0 .2
+
+same-length-2 : tie.Need-same-length-2 Inv-loop μ-loop
+same-length-2 c = c .before .loop .inv .1 .2
+
+returns : tie.Need-returns Inv-loop μ-loop
+returns c =
+    let l = c .before in
+    (positions-done (cells-known l) (l .loop .inv .0) (omega arith), positions-done (words-known l) (l .loop .inv .1) (omega arith))
+
+pub put-positions-spec : {M : Type 1} → statement M
+put-positions-spec =
+    tie.close
+    (tie.spec
+    Inv-loop
+    μ-loop
+    cast-width
+    cast-width-2
+    mul-width
+    loop-holds
+    mul-a
+    add-put-side
+    add-put-side-2
+    mul-put-side
+    sub-put-side
+    part-put-side-start
+    part-put-side-end
+    put-side-requires
+    add-j
+    loop-less
+    loop-again
+    same-length
+    same-length-2
+    returns)
