@@ -1,4 +1,5 @@
 pub mod CodeLaws
+mod Halves
 mod Largest
 mod Patterns
 mod Reading

@@ -61,7 +61,7 @@ fields-signed s (suc x) t = by (eqb (suc x) 255) (eqb t 0)
     by false b = odd-signed s 24 (8388608 + t) x 149
 
 -- the fields of a word without a sign
-pub fields : (w : ℕ) → w < 2147483648 → float w ≡ ofFields binary32 false (w / 8388608) (w % 8388608)
+fields : (w : ℕ) → w < 2147483648 → float w ≡ ofFields binary32 false (w / 8388608) (w % 8388608)
 unfolding ofBits
 fields w h = rw (lt-leb 2147483648 w h, mod-eq-of-lt h)
 

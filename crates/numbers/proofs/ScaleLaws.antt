@@ -57,7 +57,7 @@ unfolding odd
 odd-plain d zero k l = tt
 odd-plain d (suc q) k l = tt
 
-units-plain : (q k : ℕ) → T (plain (units binary32 false q k))
+pub units-plain : (q k : ℕ) → T (plain (units binary32 false q k))
 unfolding units
 units-plain q k = cond-plain (ltb (q * 2 ^ k) (2 ^ 277)) (odd 25 false q k 149) (inf false) (odd-plain 25 q k 149) tt
 

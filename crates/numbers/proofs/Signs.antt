@@ -1,44 +1,65 @@
--- A word without its sign stands for the same magnitude, so the sign and the rounded magnitude give the held number.
-use mathlib.Core.Path.{_≡_, refl, ap}
-use Prim.Native.Nat.{ℕ, zero, suc, _+_, _-_, _%_, _≤_, _<_, min}
-use native.Mathlib.Nat.{zero-min}
+-- A word without its sign stands for the same magnitude, so the sign and the held magnitude give the held number. A NaN gives what 0.0 gives.
+use mathlib.Core.Path.{_≡_, refl}
+use Prim.Native.Nat.{ℕ, zero, suc, _+_, _-_, _%_, _≤_, min}
+use native.Mathlib.Nat.{zero-min, zero-add}
 use native.Mathlib.Omega.{arith}
-use mathlib.Core.Bool.{Bool, true, false, cond}
+use mathlib.Core.Bool.{Bool, true, false, not, cond}
 use lib.IntN.{pos, negℤ}
-use lib.Dec.{leb}
-use lib.Ieee.{Float, nan, inf, fin}
-use borrow.Author.Tests.{le-leb, lt-leb}
+use lib.Dec.{T, leb, ltb}
+use lib.Ieee.{Float, nan, inf, fin, binary32, isNan, ofBits, fits}
+use lib.Ieee.Bits.{ofBits-fits}
+use lib.Ieee.Fits.{cond-fits}
+use borrow.Author.Tests.{le-leb, lt-leb, ltb-true, ltb-false}
 use Rattle.numbers.specs.Word.{float}
-use Rattle.numbers.specs.Code.{held, above, nearestWhole}
+use Rattle.numbers.specs.Code.{nearestWhole, held, above}
+use Rattle.numbers.proofs.CodeLaws.{held-above}
 use Rattle.numbers.proofs.Patterns.{signed, bare, with-sign, without-sign}
-use Rattle.numbers.proofs.Rounding.{rounded}
+
+-- what a magnitude counts when it is held up to a whole number
+abbrev pub counts : ℕ → Float → ℕ
+counts most x = above 0 (held 0 most x)
+
+pub counts-up-to : (most : ℕ) (x : Float) → counts most x ≤ most
+counts-up-to most x = omega (arith, held-above 0 most x)
 
 above-neg : (b n : ℕ) → above b (negℤ (pos n)) ≡ b - n
 above-neg b zero = omega arith
 above-neg b (suc n) = refl
 
-end : (k : ℕ) → k ≤ 128 → k ≡ min 128 k
-end k h = omega arith
-
-capped : (n k : ℕ) → k ≤ 128 → min n k ≡ min (0 + min n 128) k
-capped n k h = omega arith
-
-module _ (low high : ℕ) (l : low ≤ 128) (h : high ≤ 128) where
-  held-signed : (s : Bool) (v : Float) → let n = rounded (signed false v) in held low high (signed s v) ≡ cond s (negℤ (pos (min n low))) (pos (min n high))
+module _ (low high base : ℕ) where
+  held-signed : (s : Bool) (v : Float) → let n = counts (cond s low high) (signed false v) in above base (held low high (signed s v)) ≡ cond s (base - n) (base + n)
   unfolding held
-  held-signed true nan = rw zero-min
-  held-signed false nan = rw zero-min
-  held-signed true (inf t) = ap (λ (k : ℕ). negℤ (pos k)) (end low l)
-  held-signed false (inf t) = ap pos (end high h)
-  held-signed true (fin t m e) = ap (λ (k : ℕ). negℤ (pos k)) (capped (nearestWhole m e) low l)
-  held-signed false (fin t m e) = ap pos (capped (nearestWhole m e) high h)
+  held-signed true nan = omega arith
+  held-signed false nan = omega arith
+  held-signed true (inf t) = rw zero-add (above-neg base low)
+  held-signed false (inf t) = rw zero-add
+  held-signed true (fin t m e) = rw zero-add (above-neg base (min (nearestWhole m e) low))
+  held-signed false (fin t m e) = rw zero-add
 
-  held-at : (b : ℕ) → let n = rounded (float (b % 2147483648)) in held low high (float b) ≡ cond (leb 2147483648 b) (negℤ (pos (min n low))) (pos (min n high))
+  held-at : (b : ℕ) → let s = leb 2147483648 b in let n = counts (cond s low high) (float (b % 2147483648)) in above base (held low high (float b)) ≡ cond s (base - n) (base + n)
   held-at b = rw (with-sign b, without-sign b) (held-signed (leb 2147483648 b) (bare b))
 
-  module _ (b n base : ℕ) (q : Float) (e : float b ≡ q) (m : n ≡ rounded (float (b % 2147483648))) where
-    pub held-up : b < 2147483648 → above base (held low high q) ≡ base + min n high
-    held-up k = rw (← e, m, held-at b, lt-leb 2147483648 b k)
+  pub held-up : (b : ℕ) → ltb b 2147483648 ≡ true → above base (held low high (float b)) ≡ base + counts high (float (b % 2147483648))
+  held-up b t = rw (lt-leb 2147483648 b (ltb-true b 2147483648 t)) at (held-at b)
 
-    pub held-down : 2147483648 ≤ b → above base (held low high q) ≡ base - min n low
-    held-down k = rw (← e, m, held-at b, le-leb 2147483648 b k) (above-neg base (min (rounded (float (b % 2147483648))) low))
+  pub held-down : (b : ℕ) → ltb b 2147483648 ≡ false → above base (held low high (float b)) ≡ base - counts low (float (b % 2147483648))
+  held-down b t = rw (le-leb 2147483648 b (ltb-false b 2147483648 t)) at (held-at b)
+
+-- a quotient, and 0.0 for a NaN
+abbrev pub number : Float → Float
+number q = cond (isNan q) (float 0) q
+
+pub number-no-nan : (q : Float) → T (not (isNan (number q)))
+unfolding isNan ofBits
+number-no-nan nan = tt
+number-no-nan (inf s) = tt
+number-no-nan (fin s m e) = tt
+
+pub number-fits : (q : Float) → T (fits binary32 q) → T (fits binary32 (number q))
+number-fits q = cond-fits binary32 (isNan q) (float 0) q (ofBits-fits binary32 0)
+
+pub number-held : (low high : ℕ) (q : Float) → held low high (number q) ≡ held low high q
+unfolding held nearestWhole isNan ofBits
+number-held low high nan = rw zero-min
+number-held low high (inf s) = refl
+number-held low high (fin s m e) = refl

@@ -2,44 +2,46 @@
 use crate::words::word_to_f32;
 ghost use mathlib.Core.Path.{_≡_};
 ghost use Prim.Native.Nat.{_≤_};
-ghost use lib.Ieee.{binary32, div};
+ghost use mathlib.Core.Bool.{cond};
+ghost use lib.Ieee.{binary32, div, isNan, lt};
 ghost use Rattle.numbers.specs.Word.{float};
 ghost use Rattle.numbers.specs.Code.{held, above, code8, code4, read8, less8, read4};
 
-// A magnitude to the nearest whole number, halves upwards, and no more than 128. `bits` is its pattern.
-fn nearest_whole(bits: u32) -> u32
-    requires { ⌜ bits ≤ 2139095040 ⌝ }
-    ensures { λ r. ⌜ r ≡ above 0 (held 0 128 (float bits)) ⌝ }
+// `a` where it is below `b`, else `b`.
+fn smaller(a: f32, b: f32) -> f32
+    ensures { λ r. ⌜ r ≡ cond (lt a b) a b ⌝ }
 {
-    let exponent = bits >> 23;
-    if exponent < 126 {
-        return 0;
-    }
-    if 133 < exponent {
-        return 128;
-    }
-    let digits = 0x80_0000 + bits % 0x80_0000;
-    // Whole halves: the digit that counts one stands at place 149 - exponent.
-    let halves = digits >> (149 - exponent);
-    (halves + 1) / 2
+    if a < b { a } else { b }
+}
+
+// A magnitude to the nearest whole number, halves upwards, and no more than `most`. `bits` is its pattern.
+fn nearest_whole(bits: u32, most: u16) -> u32
+    requires { ⌜ (bits ≤ 2139095040) × (most ≤ 128) ⌝ }
+    ensures { λ r. ⌜ r ≡ above 0 (held 0 most (float bits)) ⌝ }
+{
+    let x = smaller(f32::from_bits(bits), most as f32);
+    // Beside 2^23 a float has no place for a fraction: the sum is rounded to a whole number, a half to the even one.
+    let n = f32::to_bits(x + 8_388_608.0) % 256;
+    if x == n as f32 + 0.5 { n + 1 } else { n }
+}
+
+// A quotient, and 0.0 for a NaN.
+fn number_of(q: f32) -> f32
+    ensures { λ r. ⌜ r ≡ cond (isNan q) (float 0) q ⌝ }
+{
+    if q != q { 0.0 } else { q }
 }
 
 // What `zero` becomes when the number's quotient by the scale, rounded and held in -low .. high, is added.
-fn quantize(x: u32, scale: f32, low: u32, high: u32, zero: u32) -> u32
+fn quantize(x: u32, scale: f32, low: u16, high: u16, zero: u32) -> u32
     requires { ⌜ (low ≤ 128) × (high ≤ 128) × (low ≤ zero) × (zero ≤ 256) ⌝ }
     ensures { λ r. ⌜ r ≡ above zero (held low high (div binary32 (float x) scale)) ⌝ }
 {
-    let q = word_to_f32(x) / scale;
-    if q != q {
-        return zero;
-    }
-    let bits = f32::to_bits(q);
-    let n = nearest_whole(bits % 0x8000_0000);
-    if bits < 0x8000_0000 {
-        if n < high { zero + n } else { zero + high }
-    } else {
-        if n < low { zero - n } else { zero - low }
-    }
+    let bits = f32::to_bits(number_of(word_to_f32(x) / scale));
+    let positive = bits < 0x8000_0000;
+    let most = if positive { high } else { low };
+    let n = nearest_whole(bits % 0x8000_0000, most);
+    if positive { zero + n } else { zero - n }
 }
 
 // The INT8 code of a number. The Rust's `quantize_i8`.

@@ -1,35 +1,43 @@
--- The exponent's field says in which of three ranges the number lies, and each range has its law.
+-- The magnitude is clamped to 128 at most, so that the sum with 2^23 rounds it, and where a half is left one more is the nearest.
 use native.Mathlib.Omega.{arith}
-use Prim.Native.Nat.{_+_, _-_, _/_, _%_}
 use borrow.Author.Needs.{needs}
-use lib.Pow.{shr-le}
-use Rattle.numbers.proofs.Rounding.{small-is-0, large-is-128, else-by-halves}
+use lib.Dec.{le→leb}
+use lib.Ieee.{inFloat}
+use Rattle.numbers.specs.Word.{float}
+use Rattle.numbers.proofs.Halves.{Nearest, clamped, ending, raised-no-nan, one-more, no-more}
+use Rattle.numbers.proofs.Patterns.{up-to-infinity}
+use Rattle.numbers.proofs.Signs.{counts}
 use Rattle.numbers.proofs.codes.nearest_whole.Statement.{statement}
 use Rattle.numbers.proofs.codes.nearest_whole.Tie as tie
 
-returns : tie.Need-returns
-returns c = small-is-0 (c .before .args .bits) (c .before .pre) (omega arith)
+float-from-bits-smaller : tie.Need-float-from-bits-smaller
+float-from-bits-smaller c = up-to-infinity _ (omega arith)
 
-returns-2 : tie.Need-returns-2
-returns-2 c = large-is-128 (c .before .before .args .bits) (c .before .before .pre) (omega arith)
+int-to-float-smaller : tie.Need-int-to-float-smaller
+int-to-float-smaller c = search needs
 
-add-digits : tie.Need-add-digits
-add-digits c = search needs
+smaller-requires : tie.Need-smaller-requires
+smaller-requires c κs = search needs
 
-sub-halves : tie.Need-sub-halves
-sub-halves c = search needs
+rounds : (c : tie.After-smaller) → let a = c .before .before .args in Nearest (c .smaller .result) (counts (a .most) (float (a .bits)))
+rounds c = let s = c .before .before in rw (c .smaller .ensures) (clamped (s .args .bits) (s .args .most) (s .pre .0) (s .pre .1))
 
-shr-halves : tie.Need-shr-halves
-shr-halves c = search needs
+float-to-bits-n : tie.Need-float-to-bits-n
+float-to-bits-n c = raised-no-nan (rounds c)
+
+int-to-float-if1 : tie.Need-int-to-float-if1
+unfolding inFloat
+int-to-float-if1 c = le→leb (ending (c .before .smaller .result)) 16777216 (omega arith)
 
 add-result : tie.Need-add-result
-add-result c =
-    let b = c .before .before .args .bits in
-    omega (arith, shr-le (8388608 + b % 8388608) (149 - b / 8388608))
+add-result c = search needs
 
-returns-3 : tie.Need-returns-3
-returns-3 c = else-by-halves (c .before .before .args .bits) (c .before .before .pre) (omega arith) (omega arith)
+returns : tie.Need-returns
+returns c = one-more (rounds (c .before .before)) (c .if1 .taken)
+
+returns-2 : tie.Need-returns-2
+returns-2 c = no-more (rounds (c .before .before)) (c .if1 .left)
 
 pub nearest-whole-spec : {M : Type 1} → statement M
 nearest-whole-spec =
-    tie.close (tie.spec returns returns-2 add-digits sub-halves shr-halves add-result returns-3)
+    tie.close (tie.spec float-from-bits-smaller int-to-float-smaller smaller-requires float-to-bits-n int-to-float-if1 add-result returns returns-2)

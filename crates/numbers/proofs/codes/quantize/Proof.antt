@@ -1,94 +1,86 @@
 -- The quotient comes back from its pattern, whose sign and magnitude give the held number.
 use mathlib.Core.Path.{_≡_, ap, _∙_}
-use Prim.Native.Nat.{ℕ, _+_, _-_, min}
-use native.Mathlib.Nat.{add-zero}
+use mathlib.Core.Logic.{⊎-elim}
+use Prim.Native.Nat.{ℕ, _≤_}
 use native.Mathlib.Omega.{arith}
-use mathlib.Core.Bool.{true}
-use lib.Ieee.{Float, binary32, ne, div, toBits}
+use mathlib.Core.Bool.{true, false, not}
+use lib.Dec.{T, ltb}
+use lib.Ieee.{Float, binary32, div, toBits, isNan, fits}
 use lib.Ieee.Bits.{ofBits-toBits}
 use lib.Ieee.Fits.{div-fits}
 use borrow.Author.Needs.{needs}
 use Rattle.numbers.specs.Word.{float}
 use Rattle.numbers.specs.Code.{held, above}
-use Rattle.numbers.proofs.Patterns.{differs, no-nan, word-up-to-infinity}
-use Rattle.numbers.proofs.Signs.{held-up, held-down}
+use Rattle.numbers.proofs.Patterns.{word-up-to-infinity}
+use Rattle.numbers.proofs.Signs.{counts-up-to, number, number-no-nan, number-fits, number-held, held-up, held-down}
 use Rattle.numbers.proofs.codes.quantize.Statement.{statement}
 use Rattle.numbers.proofs.codes.quantize.Tie as tie
 
 word-to-f32-requires : tie.Need-word-to-f32-requires
 word-to-f32-requires c κs = search needs
 
-nan-adds-0 : (low high base : ℕ) (q : Float) → ne q q ≡ true → base ≡ above base (held low high q)
-unfolding held
-nan-adds-0 low high base q e = rw (differs q e, add-zero)
+number-of-requires : tie.Need-number-of-requires
+number-of-requires c κs = search needs
+
+-- what the contract asks for, at its quotient
+abbrev quotient : tie.Start → Float
+quotient s = div binary32 (float (s .args .x)) (s .args .scale)
+
+abbrev code : tie.Start → Float → ℕ
+code s q = above (s .args .zero) (held (s .args .low) (s .args .high) q)
+
+abbrev bits : tie.After-number-of → ℕ
+bits c = toBits binary32 (c .number-of .result)
+
+module _ (c : tie.After-number-of) where
+  is-number : c .number-of .result ≡ number (quotient (c .before .before))
+  is-number = c .number-of .ensures ∙ ap (λ (x : Float). number (div binary32 x (c .before .before .args .scale))) (c .before .word-to-f32 .ensures)
+
+  no-nan : T (not (isNan (c .number-of .result)))
+  no-nan = rw is-number (number-no-nan _)
+
+  in-range : T (fits binary32 (c .number-of .result))
+  in-range = rw is-number (number-fits _ (div-fits binary32 _ _))
+
+  code-is : let s = c .before .before in code s (float (bits c)) ≡ code s (quotient s)
+  code-is = rw (ofBits-toBits binary32 _ in-range, is-number, number-held _ _ (quotient (c .before .before)))
+
+float-to-bits-bits : tie.Need-float-to-bits-bits
+float-to-bits-bits c = no-nan c
+
+nearest-whole-requires : tie.Need-nearest-whole-requires
+nearest-whole-requires c κs =
+    (word-up-to-infinity _ (in-range (c .before)) (no-nan (c .before)), ⊎-elim (λ w. omega arith) (λ w. omega arith) (c .if1 .came))
+
+-- the number counts no more than the end of the range on its side
+module _ (c : tie.After-nearest-whole) where
+  up-to-most : c .nearest-whole .result ≤ c .before .if1 .most
+  up-to-most = rw (c .nearest-whole .ensures) (counts-up-to _ _)
+
+  most-up : ltb (bits (c .before .before)) 2147483648 ≡ true → c .before .if1 .most ≡ c .before .before .before .before .args .high
+  most-up t = ⊎-elim (λ w. cc) (λ w. cc) (c .before .if1 .came)
+
+  most-down : ltb (bits (c .before .before)) 2147483648 ≡ false → c .before .if1 .most ≡ c .before .before .before .before .args .low
+  most-down t = ⊎-elim (λ w. cc) (λ w. cc) (c .before .if1 .came)
+
+add-result : tie.Need-add-result
+add-result c = record { fits = omega (arith, up-to-most (c .before), most-up (c .before) (c .if2 .taken)) }
+
+sub-result : tie.Need-sub-result
+sub-result c = omega (arith, up-to-most (c .before), most-down (c .before) (c .if2 .left))
 
 returns : tie.Need-returns
 returns c =
-    let a = c .before .before .args in
-    nan-adds-0 (a .low) (a .high) (a .zero) (div binary32 (float (a .x)) (a .scale)) (rw (← c .before .word-to-f32 .ensures) (c .if1 .taken))
-
-float-to-bits-bits : tie.Need-float-to-bits-bits
-float-to-bits-bits c = no-nan _ (c .if1 .left)
-
-nearest-whole-requires : tie.Need-nearest-whole-requires
-nearest-whole-requires c κs = word-up-to-infinity _ (div-fits binary32 _ _) (no-nan _ (c .if1 .left))
-
-add-result : tie.Need-add-result
-add-result c = search needs
-
-add-result-2 : tie.Need-add-result-2
-add-result-2 c = search needs
-
-sub-result : tie.Need-sub-result
-sub-result c = search needs
-
-sub-result-2 : tie.Need-sub-result-2
-sub-result-2 c = search needs
-
-back : (c : tie.After-word-to-f32) → float (toBits binary32 (div binary32 (c .word-to-f32 .result) (c .before .args .scale))) ≡ div binary32 (float (c .before .args .x)) (c .before .args .scale)
-back c =
-    ofBits-toBits binary32 _ (div-fits binary32 (c .word-to-f32 .result) (c .before .args .scale))
-    ∙ ap (λ (x : Float). div binary32 x (c .before .args .scale)) (c .word-to-f32 .ensures)
-
--- what the contract asks for
-abbrev code : tie.Start → ℕ
-code s = above (s .args .zero) (held (s .args .low) (s .args .high) (div binary32 (float (s .args .x)) (s .args .scale)))
-
-up : (c : tie.Then2) → let s = c .before .before .before .before in code s ≡ s .args .zero + min (c .before .nearest-whole .result) (s .args .high)
-up c =
-    let s = c .before .before .before .before in
-    held-up (s .args .low) (s .args .high) (s .pre .0) (s .pre .1) _ _ (s .args .zero) _ (back (c .before .before .before)) (c .before .nearest-whole .ensures) (c .if2 .taken)
-
-down : (c : tie.Else2) → let s = c .before .before .before .before in code s ≡ s .args .zero - min (c .before .nearest-whole .result) (s .args .low)
-down c =
-    let s = c .before .before .before .before in
-    held-down (s .args .low) (s .args .high) (s .pre .0) (s .pre .1) _ _ (s .args .zero) _ (back (c .before .before .before)) (c .before .nearest-whole .ensures) (c .if2 .left)
+    let d = c .before .before .before in
+    let a = d .before .before .args in
+    rw (← code-is d, held-up (a .low) (a .high) (a .zero) (bits d) (c .if2 .taken), c .before .nearest-whole .ensures, most-up (c .before) (c .if2 .taken))
 
 returns-2 : tie.Need-returns-2
-returns-2 c = rw (up (c .before)) (omega arith)
-
-returns-3 : tie.Need-returns-3
-returns-3 c = rw (up (c .before)) (omega arith)
-
-returns-4 : tie.Need-returns-4
-returns-4 c = rw (down (c .before)) (omega arith)
-
-returns-5 : tie.Need-returns-5
-returns-5 c = rw (down (c .before)) (omega arith)
+returns-2 c =
+    let d = c .before .before .before in
+    let a = d .before .before .args in
+    rw (← code-is d, held-down (a .low) (a .high) (a .zero) (bits d) (c .if2 .left), c .before .nearest-whole .ensures, most-down (c .before) (c .if2 .left))
 
 pub quantize-spec : {M : Type 1} → statement M
 quantize-spec =
-    tie.close
-    (tie.spec
-    word-to-f32-requires
-    returns
-    float-to-bits-bits
-    nearest-whole-requires
-    add-result
-    add-result-2
-    sub-result
-    sub-result-2
-    returns-2
-    returns-3
-    returns-4
-    returns-5)
+    tie.close (tie.spec word-to-f32-requires number-of-requires float-to-bits-bits nearest-whole-requires add-result sub-result returns returns-2)

@@ -1,0 +1,12 @@
+-- The test is the definition's own.
+use Rattle.numbers.proofs.codes.smaller.Statement.{statement}
+use Rattle.numbers.proofs.codes.smaller.Tie as tie
+
+returns : tie.Need-returns
+returns c = rw (c .if1 .taken)
+
+returns-2 : tie.Need-returns-2
+returns-2 c = rw (c .if1 .left)
+
+pub smaller-spec : {M : Type 1} → statement M
+smaller-spec = tie.close (tie.spec returns returns-2)
