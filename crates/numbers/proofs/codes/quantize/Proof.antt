@@ -1,9 +1,9 @@
 -- The quotient comes back from its pattern, whose sign and magnitude give the held number.
-use mathlib.Core.Path.{_≡_, ap, _∙_}
+use mathlib.Core.Path.{_≡_, sym, ap, _∙_}
 use mathlib.Core.Logic.{⊎-elim}
 use Prim.Native.Nat.{ℕ, _≤_}
 use native.Mathlib.Omega.{arith}
-use mathlib.Core.Bool.{true, false, not}
+use mathlib.Core.Bool.{true, false, not, true≢false}
 use lib.Dec.{T, ltb}
 use lib.Ieee.{Float, binary32, div, toBits, isNan, fits}
 use lib.Ieee.Bits.{ofBits-toBits}
@@ -58,10 +58,10 @@ module _ (c : tie.After-nearest-whole) where
   up-to-most = rw (c .nearest-whole .ensures) (counts-up-to _ _)
 
   most-up : ltb (bits (c .before .before)) 2147483648 ≡ true → c .before .if1 .most ≡ c .before .before .before .before .args .high
-  most-up t = ⊎-elim (λ w. cc) (λ w. cc) (c .before .if1 .came)
+  most-up t = ⊎-elim (λ w. w .1) (λ w. absurd (true≢false (sym t ∙ w .0 .left))) (c .before .if1 .came)
 
   most-down : ltb (bits (c .before .before)) 2147483648 ≡ false → c .before .if1 .most ≡ c .before .before .before .before .args .low
-  most-down t = ⊎-elim (λ w. cc) (λ w. cc) (c .before .if1 .came)
+  most-down t = ⊎-elim (λ w. absurd (true≢false (sym (w .0 .taken) ∙ t))) (λ w. w .1) (c .before .if1 .came)
 
 add-result : tie.Need-add-result
 add-result c = record { fits = omega (arith, up-to-most (c .before), most-up (c .before) (c .if2 .taken)) }
