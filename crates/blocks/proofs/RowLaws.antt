@@ -1,28 +1,19 @@
--- What stands in a row: the four bytes of an F32 number, and a group's two halves and its place among the groups.
--- Each holds by the laws of parts, or by where the number lies.
+-- What stands in an INT4 row: a group's two halves, and its place among the groups.
+-- Each holds by the laws of tables, or by where the number lies.
 use mathlib.Core.Path.{_≡_, sym, _∙_}
-use mathlib.Core.List.{List, [], _∷_}
-use Prim.Native.Nat.{ℕ, _+_, _*_, _/_, _%_, _≤_, _<_}
-use native.Mathlib.Nat.{add-zero, add-sub-cancel-left}
+use mathlib.Core.List.{List}
+use Prim.Native.Nat.{ℕ, _+_, _*_, _/_, _%_, _<_}
+use native.Mathlib.Nat.{add-sub-cancel-left}
 use native.Mathlib.Omega.{arith}
 use borrow.Author.Tests.{lt-ltb, le-ltb}
 use lib.ListN.{length, getD, set, take, drop, length-take, length-drop, take-append-drop}
 use lib.Seq.{getD-take, getD-drop, take-set-le, take-set-lt, drop-set-add, drop-set-lt}
 use lib.Ieee.{Float, nan, binary32, add, mul}
-use Rattle.lists.specs.Chunks.{tab, part}
-use Rattle.lists.proofs.Tab.{part-tab, tab-add, tab-same}
+use Rattle.lists.specs.Chunks.{part}
+use Rattle.lists.proofs.Tab.{tab-add, tab-same}
 use Rattle.numbers.specs.Word.{float}
-use Rattle.lists.specs.Bytes.{fromLittle}
-use Rattle.rows.specs.Row.{f32At}
 use Rattle.blocks.specs.Order.{codeFrom, groupCode, int4Term, added}
 use Rattle.blocks.proofs.OrderLaws.{addedTo, added-next, added-all}
-
--- number d of a row in F32, from its four bytes
-pub f32-bytes : (cells : List ℕ) (d : ℕ) → d * 4 + 4 ≤ length cells
-    → let a = d * 4 in
-    fromLittle (getD cells a 0 ∷ getD cells (a + 1) 0 ∷ getD cells (a + 2) 0 ∷ getD cells (a + 3) 0 ∷ []) ≡ f32At cells d
-unfolding tab
-f32-bytes cells d h = rw (part-tab (d * 4) 4 cells 0 h, add-zero)
 
 -- the two halves of a group's sums: the low codes' terms added at the first i of 16 places, and the high ones' at the first i of the next 16
 module _ (x : Float) (bytes : List ℕ) (l : List Float) where

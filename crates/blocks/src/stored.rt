@@ -5,6 +5,7 @@ use rows::word_of_bytes;
 ghost use mathlib.Core.Path.{_≡_};
 ghost use Prim.Native.Nat.{_+_, _*_, _/_, _%_, _^_, _≤_};
 ghost use lib.ListN.{length};
+ghost use Rattle.lists.specs.Bytes.{fromLittle};
 ghost use Rattle.numbers.specs.Word.{float};
 ghost use Rattle.numbers.specs.Code.{less8};
 ghost use Rattle.rows.specs.Row.{f32At};
@@ -15,7 +16,15 @@ pub(crate) fn number_at(cells: &[u8], d: usize) -> f32
     ensures { λ r. ⌜ r ≡ float (f32At (now (cells .entry)) d) ⌝ }
 {
     let a = d * 4;
-    word_to_f32(word_of_bytes(cells[a], cells[a + 1], cells[a + 2], cells[a + 3]))
+    word_to_f32(word_of(&cells[a..a + 4]))
+}
+
+// The word of four bytes, which the back end loads at once where they are lent as a part.
+pub(crate) fn word_of(bytes: &[u8]) -> u32
+    requires { ⌜ length (now bytes) ≡ 4 ⌝ }
+    ensures { λ r. ⌜ r ≡ fromLittle (now (bytes .entry)) ⌝ }
+{
+    word_of_bytes(bytes[0], bytes[1], bytes[2], bytes[3])
 }
 
 // The code less 8 that begins at bit `from` of a byte.

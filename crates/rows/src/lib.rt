@@ -66,7 +66,7 @@ pub fn get_row(format: u32, cells: &[u8], scales: &[u32], out: &mut [u32]) -> Re
 pub fn word_of_bytes(b0: u8, b1: u8, b2: u8, b3: u8) -> u32
     ensures { λ r. ⌜ r ≡ fromLittle (b0 ∷ b1 ∷ b2 ∷ b3 ∷ []) ⌝ }
 {
-    word_from(half_from(b0, b1), half_from(b2, b3))
+    b0 as u32 + 256 * b1 as u32 + 65_536 * b2 as u32 + 16_777_216 * b3 as u32
 }
 
 // Whether the lengths are those of `m` rows of `d` numbers.
@@ -237,12 +237,6 @@ fn half_of(cells: &[u8]) -> u16
     ensures { λ r. ⌜ r ≡ fromLittle (now (cells .entry)) ⌝ }
 {
     half_from(cells[0], cells[1])
-}
-
-fn word_from(low: u16, high: u16) -> u32
-    ensures { λ r. ⌜ r ≡ low + 65536 * high ⌝ }
-{
-    low as u32 + 65_536 * high as u32
 }
 
 fn half_from(low: u8, high: u8) -> u16

@@ -1,18 +1,27 @@
--- Two halves of two bytes each make the word.
+-- Four bytes weigh less than a word, and their sum is the number that they make.
 use native.Mathlib.Omega.{arith}
 use borrow.Author.Needs.{needs}
 use Rattle.lists.specs.Bytes.{fromLittle}
 use Rattle.rows.proofs.word_of_bytes.Statement.{statement}
 use Rattle.rows.proofs.word_of_bytes.Tie as tie
 
-half-from-requires : tie.Need-half-from-requires
-half-from-requires c κs = search needs
+mul-result : tie.Need-mul-result
+mul-result c = search needs
 
-half-from-requires-2 : tie.Need-half-from-requires-2
-half-from-requires-2 c κs = search needs
+add-result : tie.Need-add-result
+add-result c = search needs
 
-word-from-requires : tie.Need-word-from-requires
-word-from-requires c κs = search needs
+mul-result-2 : tie.Need-mul-result-2
+mul-result-2 c = search needs
+
+add-result-2 : tie.Need-add-result-2
+add-result-2 c = search needs
+
+mul-result-3 : tie.Need-mul-result-3
+mul-result-3 c = search needs
+
+add-result-3 : tie.Need-add-result-3
+add-result-3 c = search needs
 
 returns : tie.Need-returns
 unfolding fromLittle
@@ -20,4 +29,5 @@ returns c = omega arith
 
 pub word-of-bytes-spec : {M : Type 1} → statement M
 word-of-bytes-spec =
-    tie.close (tie.spec half-from-requires half-from-requires-2 word-from-requires returns)
+    tie.close
+    (tie.spec mul-result add-result mul-result-2 add-result-2 mul-result-3 add-result-3 returns)
