@@ -1,4 +1,5 @@
 // Blocks: the first positions of one head's block, scored under a query or summed under weights, in the Rust's order of float operations.
+pub(crate) mod fours;
 pub(crate) mod scores;
 pub(crate) mod stored;
 pub(crate) mod sums;
