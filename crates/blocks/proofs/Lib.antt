@@ -1,3 +1,4 @@
 pub mod BlockLaws
+pub mod FourLaws
 pub mod OrderLaws
 pub mod RowLaws

@@ -1,13 +1,18 @@
 // The scores of four rows at once: a running sum for each, in the order of its own row.
+use crate::scores::score_int4;
 use crate::stored::number_at;
 ghost use mathlib.Core.Path.{_≡_};
-ghost use Prim.Native.Nat.{_+_, _*_, _≤_};
+ghost use mathlib.Core.List.{[], _∷_};
+ghost use Prim.Native.Nat.{_+_, _*_, _/_, _≤_, _<_};
 ghost use lib.ListN.{length};
 ghost use lib.Ieee.{binary32, add, mul};
+ghost use Rattle.lists.specs.Chunks.{part};
 ghost use Rattle.numbers.specs.Word.{float};
 ghost use Rattle.rows.specs.Row.{f32At};
-ghost use Rattle.blocks.specs.Order.{f32Dot};
-ghost use Rattle.blocks.specs.Fits.{IsF32};
+ghost use Rattle.rows.specs.Calls.{buffers};
+ghost use Rattle.blocks.specs.Order.{f32Dot, int4Dot};
+ghost use Rattle.blocks.specs.Block.{blockScores};
+ghost use Rattle.blocks.specs.Fits.{Rows, IsF32, IsInt4};
 
 // A number for each of four rows.
 pub(crate) struct Four {
@@ -15,6 +20,73 @@ pub(crate) struct Four {
     pub s1: f32,
     pub s2: f32,
     pub s3: f32,
+}
+
+// Scores four rows that lie one after the other.
+pub(crate) fn score_four(
+    format: u32,
+    query: &[f32],
+    scale: f32,
+    cells: &[u8],
+    scales: &[u32],
+) -> Four
+    requires { ⌜ Rows format (length (now query)) 4 (length (now cells)) (length (now scales)) ⌝ }
+    ensures { λ r.
+        ⌜
+        r .s0 ∷ r .s1 ∷ r .s2 ∷ r .s3 ∷ []
+        ≡ blockScores format (now (query .entry)) scale (buffers (now (cells .entry)) (now (scales .entry))) 4
+        ⌝ }
+{
+    if format == 0 {
+        return four_f32(
+            query,
+            scale,
+            row_cells(cells, 0),
+            row_cells(cells, 1),
+            row_cells(cells, 2),
+            row_cells(cells, 3),
+        );
+    }
+    four_int4(
+        query,
+        scale,
+        row_cells(cells, 0),
+        row_cells(cells, 1),
+        row_cells(cells, 2),
+        row_cells(cells, 3),
+        row_scales(scales, 0),
+        row_scales(scales, 1),
+        row_scales(scales, 2),
+        row_scales(scales, 3),
+    )
+}
+
+// The cells of row `i` of four.
+fn row_cells(cells: &[u8], i: usize) -> &[u8]
+    requires { ⌜ i < 4 ⌝ }
+    ensures { λ r.
+        ⌜
+        now r
+        ≡ part (i * (length (now (cells .entry)) / 4)) (length (now (cells .entry)) / 4) (now (cells .entry))
+        ⌝ }
+{
+    let c = cells.len() / 4;
+    let a = i * c;
+    &cells[a..a + c]
+}
+
+// The scale words of row `i` of four.
+fn row_scales(scales: &[u32], i: usize) -> &[u32]
+    requires { ⌜ i < 4 ⌝ }
+    ensures { λ r.
+        ⌜
+        now r
+        ≡ part (i * (length (now (scales .entry)) / 4)) (length (now (scales .entry)) / 4) (now (scales .entry))
+        ⌝ }
+{
+    let w = scales.len() / 4;
+    let b = i * w;
+    &scales[b..b + w]
 }
 
 fn four_f32(query: &[f32], scale: f32, r0: &[u8], r1: &[u8], r2: &[u8], r3: &[u8]) -> Four
@@ -58,4 +130,33 @@ fn lane_f32(sum: f32, q: f32, cells: &[u8], d: usize) -> f32
     ensures { λ r. ⌜ r ≡ add binary32 sum (mul binary32 q (float (f32At (now (cells .entry)) d))) ⌝ }
 {
     sum + q * number_at(cells, d)
+}
+
+fn four_int4(
+    query: &[f32],
+    scale: f32,
+    r0: &[u8],
+    r1: &[u8],
+    r2: &[u8],
+    r3: &[u8],
+    w0: &[u32],
+    w1: &[u32],
+    w2: &[u32],
+    w3: &[u32],
+) -> Four
+    requires { ⌜ IsInt4 (length (now query)) (length (now r0)) (length (now w0)) ⌝ }
+    requires { ⌜ IsInt4 (length (now query)) (length (now r1)) (length (now w1)) ⌝ }
+    requires { ⌜ IsInt4 (length (now query)) (length (now r2)) (length (now w2)) ⌝ }
+    requires { ⌜ IsInt4 (length (now query)) (length (now r3)) (length (now w3)) ⌝ }
+    ensures { λ r. ⌜ r .s0 ≡ mul binary32 (int4Dot (now (query .entry)) (now (r0 .entry)) (now (w0 .entry))) scale ⌝ }
+    ensures { λ r. ⌜ r .s1 ≡ mul binary32 (int4Dot (now (query .entry)) (now (r1 .entry)) (now (w1 .entry))) scale ⌝ }
+    ensures { λ r. ⌜ r .s2 ≡ mul binary32 (int4Dot (now (query .entry)) (now (r2 .entry)) (now (w2 .entry))) scale ⌝ }
+    ensures { λ r. ⌜ r .s3 ≡ mul binary32 (int4Dot (now (query .entry)) (now (r3 .entry)) (now (w3 .entry))) scale ⌝ }
+{
+    Four {
+        s0: score_int4(query, scale, r0, w0),
+        s1: score_int4(query, scale, r1, w1),
+        s2: score_int4(query, scale, r2, w2),
+        s3: score_int4(query, scale, r3, w3),
+    }
 }
