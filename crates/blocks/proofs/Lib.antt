@@ -1,4 +1,5 @@
 pub mod BlockLaws
 pub mod FourLaws
 pub mod OrderLaws
+pub mod PartLaws
 pub mod RowLaws

@@ -3,7 +3,7 @@ use crate::scores::score_int4;
 use crate::stored::number_at;
 ghost use mathlib.Core.Path.{_≡_};
 ghost use mathlib.Core.List.{[], _∷_};
-ghost use Prim.Native.Nat.{_+_, _*_, _/_, _≤_, _<_};
+ghost use Prim.Native.Nat.{_+_, _*_, _≤_};
 ghost use lib.ListN.{length};
 ghost use lib.Ieee.{binary32, add, mul};
 ghost use Rattle.lists.specs.Chunks.{part};
@@ -37,56 +37,49 @@ pub(crate) fn score_four(
         ≡ blockScores format (now (query .entry)) scale (buffers (now (cells .entry)) (now (scales .entry))) 4
         ⌝ }
 {
-    if format == 0 {
-        return four_f32(
-            query,
-            scale,
-            row_cells(cells, 0),
-            row_cells(cells, 1),
-            row_cells(cells, 2),
-            row_cells(cells, 3),
-        );
-    }
-    four_int4(
-        query,
-        scale,
-        row_cells(cells, 0),
-        row_cells(cells, 1),
-        row_cells(cells, 2),
-        row_cells(cells, 3),
-        row_scales(scales, 0),
-        row_scales(scales, 1),
-        row_scales(scales, 2),
-        row_scales(scales, 3),
-    )
-}
-
-// The cells of row `i` of four.
-fn row_cells(cells: &[u8], i: usize) -> &[u8]
-    requires { ⌜ i < 4 ⌝ }
-    ensures { λ r.
-        ⌜
-        now r
-        ≡ part (i * (length (now (cells .entry)) / 4)) (length (now (cells .entry)) / 4) (now (cells .entry))
-        ⌝ }
-{
     let c = cells.len() / 4;
-    let a = i * c;
-    &cells[a..a + c]
+    let r0 = cells_of(cells, c, 0, 1);
+    let r1 = cells_of(cells, c, 1, 1);
+    let r2 = cells_of(cells, c, 2, 1);
+    let r3 = cells_of(cells, c, 3, 1);
+    if format == 0 {
+        return four_f32(query, scale, r0, r1, r2, r3);
+    }
+    let w = scales.len() / 4;
+    let w0 = scales_of(scales, w, 0, 1);
+    let w1 = scales_of(scales, w, 1, 1);
+    let w2 = scales_of(scales, w, 2, 1);
+    let w3 = scales_of(scales, w, 3, 1);
+    four_int4(query, scale, r0, r1, r2, r3, w0, w1, w2, w3)
 }
 
-// The scale words of row `i` of four.
-fn row_scales(scales: &[u32], i: usize) -> &[u32]
-    requires { ⌜ i < 4 ⌝ }
-    ensures { λ r.
-        ⌜
-        now r
-        ≡ part (i * (length (now (scales .entry)) / 4)) (length (now (scales .entry)) / 4) (now (scales .entry))
-        ⌝ }
+// Stores four scores.
+pub(crate) fn put_four(s: Four, out: &mut [f32])
+    requires { ⌜ length (now out) ≡ 4 ⌝ }
+    ensures { λ _. ⌜ now (out .exit) ≡ s .s0 ∷ s .s1 ∷ s .s2 ∷ s .s3 ∷ [] ⌝ }
 {
-    let w = scales.len() / 4;
-    let b = i * w;
-    &scales[b..b + w]
+    out[0] = s.s0;
+    out[1] = s.s1;
+    out[2] = s.s2;
+    out[3] = s.s3;
+}
+
+// The cells of `n` rows from row `p` on, where a row has `c`.
+pub(crate) fn cells_of(cells: &[u8], c: usize, p: usize, n: usize) -> &[u8]
+    requires { ⌜ p * c + n * c ≤ length (now cells) ⌝ }
+    ensures { λ r. ⌜ now r ≡ part (p * c) (n * c) (now (cells .entry)) ⌝ }
+{
+    let a = p * c;
+    &cells[a..a + n * c]
+}
+
+// Their scale words, where a row has `w`.
+pub(crate) fn scales_of(scales: &[u32], w: usize, p: usize, n: usize) -> &[u32]
+    requires { ⌜ p * w + n * w ≤ length (now scales) ⌝ }
+    ensures { λ r. ⌜ now r ≡ part (p * w) (n * w) (now (scales .entry)) ⌝ }
+{
+    let b = p * w;
+    &scales[b..b + n * w]
 }
 
 fn four_f32(query: &[f32], scale: f32, r0: &[u8], r1: &[u8], r2: &[u8], r3: &[u8]) -> Four

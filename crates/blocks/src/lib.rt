@@ -4,6 +4,10 @@ pub(crate) mod scores;
 pub(crate) mod stored;
 pub(crate) mod sums;
 
+use fours::cells_of;
+use fours::put_four;
+use fours::scales_of;
+use fours::score_four;
 use replies::Reply;
 use replies::number;
 use rows::rows_fit;
@@ -12,7 +16,9 @@ use shapes::cell_bytes;
 use shapes::scale_words;
 use sums::add_row;
 ghost use mathlib.Core.Path.{_≡_};
-ghost use lib.ListN.{length, replicate};
+ghost use mathlib.Core.List.{_++_};
+ghost use Prim.Native.Nat.{_≤_};
+ghost use lib.ListN.{length, drop, replicate};
 ghost use Rattle.lists.specs.Chunks.{turns};
 ghost use Rattle.numbers.specs.Word.{float};
 ghost use Rattle.replies.specs.Reply.{replyNumber};
@@ -84,7 +90,64 @@ fn block_reply(format: u32, d: usize, m: usize, cells: usize, scales: usize) -> 
     Reply::Done
 }
 
+// Four rows at a time, and what is left row by row.
 fn score_rows(format: u32, query: &[f32], scale: f32, cells: &[u8], scales: &[u32], out: &mut [f32])
+    requires { ⌜ Rows format (length (now query)) (length (now out)) (length (now cells)) (length (now scales)) ⌝ }
+    ensures { λ _.
+        ⌜
+        now (out .exit)
+        ≡ blockScores format (now (query .entry)) scale (buffers (now (cells .entry)) (now (scales .entry))) (length (now (out .entry)))
+        ⌝ }
+{
+    let p = score_fours(format, query, scale, cells, scales, out);
+    let c = cell_bytes(format, query.len() as u32);
+    let w = scale_words(format, query.len() as u32);
+    let n = out.len() - p;
+    score_rest(
+        format,
+        query,
+        scale,
+        cells_of(cells, c, p, n),
+        scales_of(scales, w, p, n),
+        &mut out[p..],
+    );
+}
+
+// Scores four rows at a time while four are left, and answers how many rows it scored.
+fn score_fours(
+    format: u32,
+    query: &[f32],
+    scale: f32,
+    cells: &[u8],
+    scales: &[u32],
+    out: &mut [f32],
+) -> usize
+    requires { ⌜ Rows format (length (now query)) (length (now out)) (length (now cells)) (length (now scales)) ⌝ }
+    ensures within { λ r. ⌜ r ≤ length (now (out .entry)) ⌝ }
+    ensures scored { λ r.
+        ⌜
+        now (out .exit)
+        ≡ blockScores format (now (query .entry)) scale (buffers (now (cells .entry)) (now (scales .entry))) r ++ drop r (now (out .entry))
+        ⌝ }
+{
+    let c = cell_bytes(format, query.len() as u32);
+    let w = scale_words(format, query.len() as u32);
+    let mut p = 0;
+    while 4 <= out.len() - p {
+        let s = score_four(
+            format,
+            query,
+            scale,
+            cells_of(cells, c, p, 4),
+            scales_of(scales, w, p, 4),
+        );
+        put_four(s, &mut out[p..p + 4]);
+        p += 4;
+    }
+    p
+}
+
+fn score_rest(format: u32, query: &[f32], scale: f32, cells: &[u8], scales: &[u32], out: &mut [f32])
     requires { ⌜ Rows format (length (now query)) (length (now out)) (length (now cells)) (length (now scales)) ⌝ }
     ensures { λ _.
         ⌜

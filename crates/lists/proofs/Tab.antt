@@ -1,13 +1,13 @@
 -- A table has its length, its values, and grows at its end: a loop that fills a slice in order leaves a table and the rest.
 -- Each holds by induction on the number of values.
 use mathlib.Core.Path.{_≡_, refl, ap, _∙_}
-use mathlib.Core.List.{List, [], _∷_, _++_, append-nil}
-use Prim.Native.Nat.{ℕ, zero, suc, _+_, _≤_, _<_, suc-le-suc}
+use mathlib.Core.List.{List, [], _∷_, _++_, append-nil, append-assoc}
+use Prim.Native.Nat.{ℕ, zero, suc, _+_, _-_, _≤_, _<_, suc-le-suc}
 use native.Mathlib.Nat.{not-suc-le-zero, le-of-suc-le-suc, zero-add, suc-add, zero-lt-suc}
 use native.Mathlib.Numerals.{add-one}
 use native.Mathlib.Omega.{arith}
-use lib.ListN.{length, getD, set, drop, replicate, length-append, length-drop, drop-of-length-le}
-use lib.Seq.{drop-cons, set-at, append-snoc, ext-getD, getD-at, getD-take, getD-drop}
+use lib.ListN.{length, getD, set, take, drop, replicate, length-append, length-drop, drop-of-length-le}
+use lib.Seq.{take-at, drop-at, drop-drop, drop-cons, set-at, append-snoc, ext-getD, getD-at, getD-take, getD-drop}
 use Rattle.lists.specs.Chunks.{tab, part}
 use Rattle.lists.proofs.Part.{part-length}
 
@@ -70,6 +70,14 @@ module _ {A : Type 0} where
   pub tab-set : (j : ℕ) (f : ℕ → A) (l : List A) {out : List A} {v : A} → j < length l → out ≡ tab j f ++ drop j l → v ≡ f j
       → set out j v ≡ tab (j + 1) f ++ drop (j + 1) l
   tab-set j f l h o e = rw (o, e) (tab-turn j f l h)
+
+  -- the turn of k values at once: the next k places were lent as `&mut out[j..e]` and came back as y
+  pub tab-lent : (j k : ℕ) (f : ℕ → A) (l : List A) {e : ℕ} {out y : List A} → out ≡ tab j f ++ drop j l → j + k ≡ e → y ≡ tab k (λ i. f (j + i))
+      → take j out ++ (y ++ drop (e - j) (drop j out)) ≡ tab e f ++ drop e l
+  tab-lent j k f l {e} o q given =
+      let w : e - j ≡ k = omega arith in
+      let s = tab-length j f in
+      rw (given, w, o, take-at _ (drop j l) j s, drop-at _ (drop j l) j s, ← q, tab-add, append-assoc, drop-drop)
 
   -- filled up to j, a list has at j what it had there
   pub tab-next : (j : ℕ) (f : ℕ → A) (l : List A) (d : A) → j < length l → getD (tab j f ++ drop j l) j d ≡ getD l j d
