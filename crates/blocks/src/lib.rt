@@ -3,6 +3,7 @@ pub(crate) mod fours;
 pub(crate) mod scores;
 pub(crate) mod stored;
 pub(crate) mod sums;
+pub(crate) mod words;
 
 use fours::cells_of;
 use fours::put_four;

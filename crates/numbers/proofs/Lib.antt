@@ -2,7 +2,7 @@ pub mod CodeLaws
 mod Halves
 mod Largest
 mod Patterns
-mod Reading
+pub mod Reading
 mod Rounding
 pub mod ScaleLaws
 mod Signs
