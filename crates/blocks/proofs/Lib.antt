@@ -3,3 +3,4 @@ pub mod FourLaws
 pub mod OrderLaws
 pub mod PartLaws
 pub mod RowLaws
+pub mod WordLaws

@@ -2,8 +2,10 @@
 -- Each holds by the table of bytes, or byte by byte.
 use mathlib.Core.Path.{_≡_, refl}
 use mathlib.Core.List.{List, [], _∷_}
-use Prim.Native.Nat.{ℕ, zero, suc, _+_, _*_, _≤_}
+use Prim.Native.Nat.{ℕ, zero, suc, _+_, _*_, _/_, _^_, _≤_, _<_}
+use native.Mathlib.Nat.{mul-suc, pow-zero, div-one}
 use native.Mathlib.Omega.{arith}
+use lib.Pow.{shr-shr}
 use lib.ListN.{length, getD, drop, drop-of-length-le}
 use Rattle.lists.specs.Bytes.{little, fromLittle}
 use Rattle.lists.proofs.Tab.{tab-length}
@@ -23,3 +25,10 @@ from-byte (x ∷ l) (suc i) = from-byte l i
 pub from-end : (l : List ℕ) (k : ℕ) → length l ≡ k → fromLittle (drop k l) ≡ 0
 unfolding fromLittle
 from-end l k e = let h : length l ≤ k = omega arith in rw (drop-of-length-le l h)
+
+-- without its k lowest bytes a number is that of the bytes after them
+pub from-drop : (l : List ℕ) (k : ℕ) → ((i : ℕ) → i < k → getD l i 0 < 256) → fromLittle l / 2 ^ (8 * k) ≡ fromLittle (drop k l)
+from-drop l zero below = rw (pow-zero, div-one)
+from-drop l (suc k) below =
+    rw (mul-suc, ← shr-shr, from-drop l k (λ i b. below i (omega arith)))
+    (omega (arith, from-byte l k, below k (omega arith)))

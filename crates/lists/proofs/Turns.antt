@@ -1,7 +1,8 @@
--- One turn more, and when two runs of turns end alike.
+-- One turn more or several, and when two runs of turns end alike.
 -- Each holds by the definition, at the last turn.
 use mathlib.Core.Path.{_≡_, refl, ap, _∙_}
 use Prim.Native.Nat.{ℕ, zero, suc, _+_, _<_}
+use native.Mathlib.Nat.{add-zero, add-suc}
 use native.Mathlib.Numerals.{add-one}
 use native.Mathlib.Omega.{arith}
 use Rattle.lists.specs.Chunks.{turns}
@@ -15,6 +16,12 @@ module _ {A : Type 0} where
   -- the same of what a loop has in hand: y after j turns, and z after one more
   pub turns-next : (j : ℕ) (f : ℕ → A → A) (x : A) {y z : A} → y ≡ turns j f x → z ≡ f j y → z ≡ turns (j + 1) f x
   turns-next j f x o e = e ∙ rw o (turns-turn j f x)
+
+  -- k turns more from there, where the first is turn j
+  pub turns-more : (j k : ℕ) (f : ℕ → A → A) (x : A) {y z : A} → y ≡ turns j f x → z ≡ turns k (λ i. f (j + i)) y → z ≡ turns (j + k) f x
+  unfolding turns
+  turns-more j zero f x o e = e ∙ rw (add-zero, o)
+  turns-more j (suc k) f x o e = e ∙ rw (add-suc, turns-more j k f x o refl)
 
   -- turns that agree at each value that is reached end alike
   pub turns-same : (n : ℕ) (f g : ℕ → A → A) (x : A)
