@@ -1,5 +1,6 @@
 pub mod BlockLaws
 pub mod FourLaws
+pub mod GroupLaws
 pub mod OrderLaws
 pub mod PartLaws
 pub mod RowLaws

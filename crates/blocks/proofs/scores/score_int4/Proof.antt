@@ -1,22 +1,20 @@
 -- The total so far is that of the groups passed.
 use mathlib.Core.Path.{_≡_}
-use Prim.Native.Nat.{_-_, _*_, _/_, _≤_}
+use Prim.Native.Nat.{_-_, _*_, _≤_}
 use native.Mathlib.Nat.{add-sub-cancel-left}
 use native.Mathlib.Omega.{arith}
 use borrow.Author.Needs.{needs}
-use lib.ListN.{length, getD}
-use lib.Ieee.{binary32, mul}
-use Rattle.lists.specs.Chunks.{turns, part}
-use Rattle.numbers.specs.Word.{float}
-use Rattle.blocks.specs.Order.{summed, groupDot, int4Dot}
+use lib.ListN.{length}
+use Rattle.lists.specs.Chunks.{turns}
+use Rattle.blocks.specs.Order.{summed}
 use Rattle.blocks.proofs.OrderLaws.{summed-next}
+use Rattle.blocks.proofs.GroupLaws.{groupTerm, groups-all}
 use Rattle.blocks.proofs.scores.score_int4.Statement.{statement}
 use Rattle.blocks.proofs.scores.score_int4.Tie as tie
 
 abbrev Inv-loop : tie.InvT-loop
 Inv-loop query scale cells scales total₀ g₀ total g =
-    (g ≤ length scales)
-    × (total ≡ summed g (λ i. mul binary32 (groupDot (part (i * 32) 32 query) (part (i * 16) 16 cells)) (float (getD scales i 0))))
+    (g ≤ length scales) × (total ≡ summed g (groupTerm query cells scales))
 
 abbrev μ-loop : tie.MeasureT-loop
 μ-loop query scale cells scales total₀ g₀ total g = length scales - g
@@ -84,10 +82,7 @@ loop-again c =
     (omega arith, summed-next _ _ (loop .inv .1) (rw (c .dot-group .ensures, c .before .word-to-f32 .ensures, query, cells)))
 
 returns : tie.Need-returns Inv-loop μ-loop
-unfolding int4Dot
-returns c =
-    let e : length (c .before .before .before .before .before .args .query .now) / 32 ≡ c .before .loop .g = omega arith in
-    rw (c .before .loop .inv .1, e)
+returns c = groups-all _ _ _ _ (c .before .loop .g) (c .before .loop .inv .1) (omega arith)
 
 pub score-int4-spec : {M : Type 1} → statement M
 score-int4-spec =
