@@ -1,6 +1,6 @@
 // The scores of four rows at once: a running sum for each, in the order of its own row.
-use crate::scores::score_int4;
 use crate::stored::number_at;
+use crate::words::four_int4;
 ghost use mathlib.Core.Path.{_≡_};
 ghost use mathlib.Core.List.{[], _∷_};
 ghost use Prim.Native.Nat.{_+_, _*_, _≤_};
@@ -10,9 +10,9 @@ ghost use Rattle.lists.specs.Chunks.{part};
 ghost use Rattle.numbers.specs.Word.{float};
 ghost use Rattle.rows.specs.Row.{f32At};
 ghost use Rattle.rows.specs.Calls.{buffers};
-ghost use Rattle.blocks.specs.Order.{f32Dot, int4Dot};
+ghost use Rattle.blocks.specs.Order.{f32Dot};
 ghost use Rattle.blocks.specs.Block.{blockScores};
-ghost use Rattle.blocks.specs.Fits.{Rows, IsF32, IsInt4};
+ghost use Rattle.blocks.specs.Fits.{Rows, IsF32};
 
 // A number for each of four rows.
 pub(crate) struct Four {
@@ -123,33 +123,4 @@ fn lane_f32(sum: f32, q: f32, cells: &[u8], d: usize) -> f32
     ensures { λ r. ⌜ r ≡ add binary32 sum (mul binary32 q (float (f32At (now (cells .entry)) d))) ⌝ }
 {
     sum + q * number_at(cells, d)
-}
-
-fn four_int4(
-    query: &[f32],
-    scale: f32,
-    r0: &[u8],
-    r1: &[u8],
-    r2: &[u8],
-    r3: &[u8],
-    w0: &[u32],
-    w1: &[u32],
-    w2: &[u32],
-    w3: &[u32],
-) -> Four
-    requires { ⌜ IsInt4 (length (now query)) (length (now r0)) (length (now w0)) ⌝ }
-    requires { ⌜ IsInt4 (length (now query)) (length (now r1)) (length (now w1)) ⌝ }
-    requires { ⌜ IsInt4 (length (now query)) (length (now r2)) (length (now w2)) ⌝ }
-    requires { ⌜ IsInt4 (length (now query)) (length (now r3)) (length (now w3)) ⌝ }
-    ensures { λ r. ⌜ r .s0 ≡ mul binary32 (int4Dot (now (query .entry)) (now (r0 .entry)) (now (w0 .entry))) scale ⌝ }
-    ensures { λ r. ⌜ r .s1 ≡ mul binary32 (int4Dot (now (query .entry)) (now (r1 .entry)) (now (w1 .entry))) scale ⌝ }
-    ensures { λ r. ⌜ r .s2 ≡ mul binary32 (int4Dot (now (query .entry)) (now (r2 .entry)) (now (w2 .entry))) scale ⌝ }
-    ensures { λ r. ⌜ r .s3 ≡ mul binary32 (int4Dot (now (query .entry)) (now (r3 .entry)) (now (w3 .entry))) scale ⌝ }
-{
-    Four {
-        s0: score_int4(query, scale, r0, w0),
-        s1: score_int4(query, scale, r1, w1),
-        s2: score_int4(query, scale, r2, w2),
-        s3: score_int4(query, scale, r3, w3),
-    }
 }

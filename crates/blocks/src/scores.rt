@@ -32,7 +32,7 @@ fn score_f32(query: &[f32], scale: f32, cells: &[u8]) -> f32
 }
 
 // The Rust's `dot_qf32_ki4`, times the given scale.
-pub(crate) fn score_int4(query: &[f32], scale: f32, cells: &[u8], scales: &[u32]) -> f32
+fn score_int4(query: &[f32], scale: f32, cells: &[u8], scales: &[u32]) -> f32
     requires { ⌜ IsInt4 (length (now query)) (length (now cells)) (length (now scales)) ⌝ }
     ensures { λ r. ⌜ r ≡ mul binary32 (int4Dot (now (query .entry)) (now (cells .entry)) (now (scales .entry))) scale ⌝ }
 {

@@ -62,13 +62,9 @@ four-int4-requires c κs =
     let fits = quarter-int4 _ (start .args .query .now) (start .args .cells .now) (start .args .scales .now) (start .pre) in
     let t = c .before .before .before .before .if1 .left in (
       fits 0 _ _ (omega arith) t (k .before .before .before .cells-of .ensures) (c .before .before .before .scales-of .ensures),
-      (
-        fits 1 _ _ (omega arith) t (k .before .before .cells-of2 .ensures) (c .before .before .scales-of2 .ensures),
-        (
-          fits 2 _ _ (omega arith) t (k .before .cells-of3 .ensures) (c .before .scales-of3 .ensures),
-          fits 3 _ _ (omega arith) t (k .cells-of4 .ensures) (c .scales-of4 .ensures),
-        ),
-      ),
+      fits 1 _ _ (omega arith) t (k .before .before .cells-of2 .ensures) (c .before .before .scales-of2 .ensures),
+      fits 2 _ _ (omega arith) t (k .before .cells-of3 .ensures) (c .before .scales-of3 .ensures),
+      fits 3 _ _ (omega arith) t (k .cells-of4 .ensures) (c .scales-of4 .ensures),
     )
 
 returns-2 : tie.Need-returns-2
@@ -81,9 +77,9 @@ returns-2 c =
     let s = c .four-int4 .ensures in
     four-scores _ (start .args .query .now) (start .args .cells .now) (start .args .scales .now) (start .pre) (start .args .scale)
     (score 0 _ _ _ t (k .before .before .before .cells-of .ensures) (w .before .before .before .scales-of .ensures) (s .0))
-    (score 1 _ _ _ t (k .before .before .cells-of2 .ensures) (w .before .before .scales-of2 .ensures) (s .1 .0))
-    (score 2 _ _ _ t (k .before .cells-of3 .ensures) (w .before .scales-of3 .ensures) (s .1 .1 .0))
-    (score 3 _ _ _ t (k .cells-of4 .ensures) (w .scales-of4 .ensures) (s .1 .1 .1))
+    (score 1 _ _ _ t (k .before .before .cells-of2 .ensures) (w .before .before .scales-of2 .ensures) (s .1))
+    (score 2 _ _ _ t (k .before .cells-of3 .ensures) (w .before .scales-of3 .ensures) (s .2))
+    (score 3 _ _ _ t (k .cells-of4 .ensures) (w .scales-of4 .ensures) (s .3))
 
 pub score-four-spec : {M : Type 1} → statement M
 score-four-spec =
