@@ -1,5 +1,6 @@
 //! Links the static library that the oracle judges.
 use std::path::PathBuf;
+use std::process::Command;
 use std::{env, process};
 
 /// The folder of the archive: `KV_LIB_DIR`, or `target/staticlib` beside this project.
@@ -11,6 +12,15 @@ fn library_folder() -> PathBuf {
             PathBuf::from(manifest).join("../target/staticlib")
         }
     }
+}
+
+/// What the compiler calls itself.
+fn compiler() -> Option<String> {
+    let version = Command::new(env::var_os("RUSTC")?)
+        .arg("--version")
+        .output();
+    let said = String::from_utf8(version.ok()?.stdout).ok()?;
+    Some(said.trim().to_string()).filter(|said| !said.is_empty())
 }
 
 fn main() {
@@ -25,4 +35,7 @@ fn main() {
     }
     println!("cargo:rustc-link-search=native={}", folder.display());
     println!("cargo:rustc-link-lib=static=host");
+    if let Some(compiler) = compiler() {
+        println!("cargo:rustc-env=ORACLE_COMPILER={compiler}");
+    }
 }

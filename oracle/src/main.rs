@@ -18,7 +18,8 @@ fn main() -> ExitCode {
     match (command, &arguments[..]) {
         (Some("sweep"), [_]) => compare(Reach::Sweep),
         (Some("slice"), [_]) => compare(Reach::Slice),
-        (Some("speed"), [_]) => speed::measure(),
+        (Some("speed"), [_]) => speed::measure(None),
+        (Some("speed"), [_, folder]) => speed::measure(Some(Path::new(folder))),
         (Some("vectors"), [_, folder]) => written(vectors::write, folder),
         (Some("histories"), [_, folder]) => written(histories::write, folder),
         _ => {

@@ -1,123 +1,190 @@
-//! The times of scores and sums, all heads one after the other.
-use super::{timed, Bench, Times, HEADS, HEAD_SIZE, POSITIONS, RUNS};
-use crate::dice::Dice;
+//! Scores and sums of all positions, head after head, here, by the lifted halves, and as a reading of as many bytes.
+use super::kernel::{Asking, Way};
+use super::stores::{Inputs, Ours, Size};
 use crate::replies::Head;
 use crate::rules::word_of;
-use crate::{boundary, heads, words};
+use crate::rust_store::KvStore;
+use crate::{boundary, heads};
 use std::hint::black_box;
 
-/// What scores are multiplied by: about one by the root of the head size.
-const FACTOR: f32 = 0.088_388_35;
-
-/// Full stores on both sides, and a query, weights, scores and sums for each head.
-pub struct Heads {
-    bench: Bench,
-    queries: Vec<u32>,
-    weights: Vec<u32>,
-    scores: Vec<u32>,
-    sums: Vec<u32>,
-    rust_queries: Vec<f32>,
-    rust_weights: Vec<f32>,
-    rust_scores: Vec<f32>,
-    rust_sums: Vec<f32>,
+/// Full stores on both sides of the boundary, as much memory as the rows of one side, and what is answered.
+struct Heads {
+    size: Size,
+    ours: Ours,
+    rust: KvStore,
+    memory: Vec<u64>,
+    answer: Vec<u32>,
+    rust_answer: Vec<f32>,
 }
 
 impl Heads {
-    /// Fills the stores, and asks every head something else.
-    pub fn new(mut bench: Bench) -> Heads {
-        bench.truncate();
-        bench.append();
-        bench.store.truncate_to(0, 0);
-        bench.append_in_rust();
-        let mut dice = Dice::of("speed of heads", u64::from(bench.shape.format));
-        let mut ordinary = |count| words::filled(count, words::moderate, &mut dice);
-        let (queries, weights) = (ordinary(HEADS * HEAD_SIZE), ordinary(HEADS * POSITIONS));
+    /// Full stores, and room for so many answers of all heads.
+    fn new(inputs: &Inputs, format: u32, answers: usize) -> Heads {
+        let size = inputs.size;
+        let rows = size.heads * size.positions;
         Heads {
-            bench,
-            scores: vec![0; weights.len()],
-            sums: vec![0; queries.len()],
-            rust_queries: words::numbers(&queries),
-            rust_weights: words::numbers(&weights),
-            rust_scores: vec![0.0; weights.len()],
-            rust_sums: vec![0.0; queries.len()],
-            queries,
-            weights,
+            size,
+            ours: inputs.in_ours(format),
+            rust: inputs.in_rust(format),
+            memory: vec![1; rows * size.row_bytes(format) / 8],
+            answer: vec![0; answers],
+            rust_answer: vec![0.0; answers],
         }
     }
 
-    /// Whether scores and sums are the Rust's, any NaN for any NaN.
-    pub fn agree(&mut self) -> bool {
+    /// Whether the answers are the Rust's, any NaN for any NaN.
+    fn agree(&self) -> bool {
+        let ours = self.answer.iter().copied().map(f32::from_bits);
+        let rust = self.rust_answer.iter().copied();
+        ours.map(word_of).eq(rust.map(word_of))
+    }
+
+    /// Reads as many bytes as lie in the rows of one side, head after head.
+    fn read_memory(&self) {
+        for head in self
+            .memory
+            .chunks_exact(self.memory.len() / self.size.heads)
+        {
+            let words = black_box(head).iter();
+            black_box(words.fold(0u64, |sum, word| sum.wrapping_add(*word)));
+        }
+    }
+}
+
+/// Scores of each head under a query.
+pub struct Scores<'a> {
+    inputs: &'a Inputs,
+    factor: f32,
+    heads: Heads,
+}
+
+impl<'a> Scores<'a> {
+    /// Full stores, and the factor that a predictor takes: one by the root of the head size.
+    pub fn new(inputs: &'a Inputs, format: u32) -> Scores<'a> {
+        let size = inputs.size;
+        Scores {
+            inputs,
+            factor: 1.0 / (size.head_size as f32).sqrt(),
+            heads: Heads::new(inputs, format, size.heads * size.positions),
+        }
+    }
+
+    /// The scores here.
+    fn score(&mut self) {
+        let Heads {
+            size, ours, answer, ..
+        } = &mut self.heads;
+        let queries = self.inputs.queries.words.chunks_exact(size.head_size);
+        let answers = answer.chunks_exact_mut(size.positions);
+        for (head, (query, answer)) in (0..).zip(queries.zip(answers)) {
+            let head = Head { layer: 0, head };
+            let reply = boundary::scores(ours.lent(), head, query, self.factor, answer);
+            assert_eq!(reply, boundary::DONE);
+        }
+    }
+
+    /// The scores in Rust.
+    fn score_in_rust(&mut self) {
+        let Heads {
+            size,
+            rust,
+            rust_answer,
+            ..
+        } = &mut self.heads;
+        let queries = self.inputs.queries.floats.chunks_exact(size.head_size);
+        let answers = rust_answer.chunks_exact_mut(size.positions);
+        for (head, (query, answer)) in queries.zip(answers).enumerate() {
+            heads::scores(&rust.layer_data[0], head, query, self.factor, answer);
+        }
+        black_box(rust_answer);
+    }
+}
+
+impl Asking for Scores<'_> {
+    fn numbers(&self) -> usize {
+        self.heads.size.side_numbers()
+    }
+
+    fn agrees(&mut self) -> bool {
         self.score();
         self.score_in_rust();
+        self.heads.agree()
+    }
+
+    fn ask(&mut self, way: Way) {
+        match way {
+            Way::Ours => self.score(),
+            Way::Rust => self.score_in_rust(),
+            Way::Memory => self.heads.read_memory(),
+        }
+    }
+}
+
+/// Sums of each head under weights, which the lifted half borrows as if it changed them.
+pub struct Sums<'a> {
+    inputs: &'a Inputs,
+    rust_weights: Vec<f32>,
+    heads: Heads,
+}
+
+impl<'a> Sums<'a> {
+    /// Full stores.
+    pub fn new(inputs: &'a Inputs, format: u32) -> Sums<'a> {
+        let size = inputs.size;
+        Sums {
+            inputs,
+            rust_weights: inputs.weights.floats.clone(),
+            heads: Heads::new(inputs, format, size.heads * size.head_size),
+        }
+    }
+
+    /// The sums here.
+    fn sum(&mut self) {
+        let Heads {
+            size, ours, answer, ..
+        } = &mut self.heads;
+        let weights = self.inputs.weights.words.chunks_exact(size.positions);
+        let answers = answer.chunks_exact_mut(size.head_size);
+        for (head, (weights, answer)) in (0..).zip(weights.zip(answers)) {
+            let head = Head { layer: 0, head };
+            let reply = boundary::sums(ours.lent(), head, weights, answer);
+            assert_eq!(reply, boundary::DONE);
+        }
+    }
+
+    /// The sums in Rust.
+    fn sum_in_rust(&mut self) {
+        let Heads {
+            size,
+            rust,
+            rust_answer,
+            ..
+        } = &mut self.heads;
+        let weights = self.rust_weights.chunks_exact_mut(size.positions);
+        let answers = rust_answer.chunks_exact_mut(size.head_size);
+        for (head, (weights, answer)) in weights.zip(answers).enumerate() {
+            heads::sums(&rust.layer_data[0], head, weights, answer);
+        }
+        black_box(rust_answer);
+    }
+}
+
+impl Asking for Sums<'_> {
+    fn numbers(&self) -> usize {
+        self.heads.size.side_numbers()
+    }
+
+    fn agrees(&mut self) -> bool {
         self.sum();
         self.sum_in_rust();
-        let same = |ours: &[u32], rust: &[f32]| {
-            let ours = ours.iter().map(|word| word_of(f32::from_bits(*word)));
-            ours.eq(rust.iter().copied().map(word_of))
-        };
-        same(&self.scores, &self.rust_scores) && same(&self.sums, &self.rust_sums)
+        self.heads.agree()
     }
 
-    /// The times of scores, here and in Rust.
-    pub fn scores(&mut self) -> Times {
-        self.times(Heads::score, Heads::score_in_rust)
-    }
-
-    /// The times of sums, here and in Rust.
-    pub fn sums(&mut self) -> Times {
-        self.times(Heads::sum, Heads::sum_in_rust)
-    }
-
-    /// The times of two ways, in turn.
-    fn times(&mut self, ours: fn(&mut Heads), other: fn(&mut Heads)) -> Times {
-        let mut times = Times::default();
-        for _ in 0..RUNS {
-            times.ours.push(timed(|| ours(self)));
-            times.other.push(timed(|| other(self)));
+    fn ask(&mut self, way: Way) {
+        match way {
+            Way::Ours => self.sum(),
+            Way::Rust => self.sum_in_rust(),
+            Way::Memory => self.heads.read_memory(),
         }
-        times
-    }
-
-    fn score(&mut self) {
-        let queries = self.queries.chunks_exact(HEAD_SIZE);
-        let outputs = self.scores.chunks_exact_mut(POSITIONS);
-        for (head, (query, output)) in (0..).zip(queries.zip(outputs)) {
-            let head = Head { layer: 0, head };
-            let lending = self.bench.lending();
-            let reply = boundary::scores(lending, head, query, FACTOR, output);
-            assert_eq!(reply, boundary::DONE);
-        }
-        black_box(&mut self.scores);
-    }
-
-    fn score_in_rust(&mut self) {
-        let data = &self.bench.store.layer_data[0];
-        let queries = self.rust_queries.chunks_exact(HEAD_SIZE);
-        let outputs = self.rust_scores.chunks_exact_mut(POSITIONS);
-        for (head, (query, output)) in queries.zip(outputs).enumerate() {
-            heads::scores(data, head, query, FACTOR, output);
-        }
-        black_box(&mut self.rust_scores);
-    }
-
-    fn sum(&mut self) {
-        let weights = self.weights.chunks_exact(POSITIONS);
-        let outputs = self.sums.chunks_exact_mut(HEAD_SIZE);
-        for (head, (weights, output)) in (0..).zip(weights.zip(outputs)) {
-            let head = Head { layer: 0, head };
-            let reply = boundary::sums(self.bench.lending(), head, weights, output);
-            assert_eq!(reply, boundary::DONE);
-        }
-        black_box(&mut self.sums);
-    }
-
-    fn sum_in_rust(&mut self) {
-        let data = &self.bench.store.layer_data[0];
-        let weights = self.rust_weights.chunks_exact_mut(POSITIONS);
-        let outputs = self.rust_sums.chunks_exact_mut(HEAD_SIZE);
-        for (head, (weights, output)) in weights.zip(outputs).enumerate() {
-            heads::sums(data, head, weights, output);
-        }
-        black_box(&mut self.rust_sums);
     }
 }
