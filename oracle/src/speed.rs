@@ -1,7 +1,9 @@
 //! A measurement of the library's calls, against the lifted Rust and against moving memory.
 mod appending;
 mod bars;
+mod callgrind;
 mod clearing;
+mod counts;
 mod grid;
 mod growth;
 mod heads;
@@ -9,18 +11,41 @@ mod kernel;
 mod machine;
 mod magnitude;
 mod measure;
+mod plot;
 mod progress;
 mod reading;
 mod stores;
+mod svg;
 mod table;
 
+pub use counts::COUNTING;
+use kernel::Call;
 use progress::Progress;
 use std::path::Path;
 use std::process::ExitCode;
+use std::{fs, io};
+
+/// The file that the drawing is written to.
+const DRAWING: &str = "speed.svg";
 
 /// Prints the bars, the grid and the growth, and draws them into a folder where one is given; fails where results differ.
 pub fn measure(folder: Option<&Path>) -> ExitCode {
-    match measured(folder) {
+    ended(measured(folder))
+}
+
+/// Prints the instructions of the bars' kernels.
+pub fn count() -> ExitCode {
+    ended(counts::print())
+}
+
+/// What `count` runs within valgrind.
+pub fn run_counted() -> ExitCode {
+    ended(counts::run_counted())
+}
+
+/// Says what went wrong, where something did.
+fn ended(result: Result<(), String>) -> ExitCode {
+    match result {
         Ok(()) => ExitCode::SUCCESS,
         Err(failure) => {
             eprintln!("{failure}");
@@ -30,7 +55,11 @@ pub fn measure(folder: Option<&Path>) -> ExitCode {
 }
 
 /// Measures, and prints each table as soon as it is known.
-fn measured(_folder: Option<&Path>) -> Result<(), String> {
+fn measured(folder: Option<&Path>) -> Result<(), String> {
+    if let Some(folder) = folder {
+        // A folder that cannot be made is told before the minutes that measuring takes.
+        fs::create_dir_all(folder).map_err(|error| told(folder, error))?;
+    }
     print_header();
     let mut progress = Progress::of(bars::ROWS + grid::rows());
     let table = bars::judge(&mut progress)?;
@@ -43,19 +72,25 @@ fn measured(_folder: Option<&Path>) -> Result<(), String> {
     grid::print(&grid);
     println!();
     growth::print(&grid);
-    Ok(())
+    let Some(folder) = folder else {
+        return Ok(());
+    };
+    let drawing = plot::drawing(&table, &grid, &machine::line());
+    let file = folder.join(DRAWING);
+    fs::write(&file, drawing).map_err(|error| told(&file, error))
+}
+
+/// What went wrong with a file or a folder.
+fn told(path: &Path, error: io::Error) -> String {
+    format!("{}: {error}", path.display())
 }
 
 /// Prints what was measured on, and how.
 fn print_header() {
     println!("{}", machine::line());
-    println!("One layer that is full. Nanoseconds for one number, the least and the median of 5 to 21 runs. The ways of a row");
-    println!("take turns, each on memory of its own. Results were compared bit by bit before they were timed.");
-    println!("open        dirty: every byte was written over just before the run");
-    println!("truncate    dirty: as open");
-    println!("append      warm: the same append just before the run was cut again, so that the layer is empty");
-    println!("read a row  warm: every row was read just before the run");
-    println!("scores      warm: the same scores just before the run");
-    println!("sums        warm: the same sums just before the run");
-    println!("largest magnitude  warm: 64 runs of 128 numbers, scanned just before the run");
+    println!("One layer that is full. Nanoseconds for one number, the least and the median of 6 to 21 runs. The ways of");
+    println!("a row take turns, each on memory of its own. Results were compared bit by bit before they were timed.");
+    for call in Call::ALL {
+        println!("{:<19}{}", call.name(), call.state());
+    }
 }

@@ -45,10 +45,6 @@ impl<'a> Appending<'a> {
 }
 
 impl Bench for Appending<'_> {
-    fn numbers(&self) -> usize {
-        2 * self.inputs.size.side_numbers()
-    }
-
     fn agrees(&mut self) -> bool {
         for way in [Way::Ours, Way::Rust] {
             self.prepare(way);

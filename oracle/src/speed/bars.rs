@@ -1,6 +1,6 @@
 //! The bars: how fast each kernel has to be beside the other way, and how fast it is, three times over.
 use super::kernel::{Call, Kernel, Way};
-use super::measure::{self, Times};
+use super::measure::{self, Times, ROUNDS};
 use super::progress::Progress;
 use super::stores::{Inputs, Size};
 use super::table::{line, number, number_or_dash, whole, Column};
@@ -15,7 +15,7 @@ pub const SIZE: Size = Size {
 /// How many times over each kernel is measured.
 const MEASUREMENTS: usize = 3;
 
-/// Ratios to the other way: one to stay within, and one to dream of.
+/// Ratios to the other way: one to stay within, and one to aim at.
 #[derive(Clone, Copy, Debug, PartialEq)]
 pub struct Goal {
     pub bar: f64,
@@ -30,7 +30,7 @@ pub struct Bar {
 }
 
 /// Every kernel that is held to a bar, or will be.
-pub const BARS: [Bar; 17] = [
+pub const BARS: &[Bar] = &[
     bar(Call::Scores, F32, 0.75, 0.55),
     bar(Call::Sums, F32, 1.18, 1.0),
     bar(Call::Scores, INT4, 0.35, 0.28),
@@ -109,9 +109,9 @@ pub struct Judged {
 
 impl Judged {
     /// Nothing measured.
-    fn new(bar: Bar) -> Judged {
+    fn new(bar: &Bar) -> Judged {
         Judged {
-            bar,
+            bar: *bar,
             times: Times::default(),
             ratios: Vec::new(),
         }
@@ -119,7 +119,7 @@ impl Judged {
 
     /// A kernel of which only the ratios are known.
     #[cfg(test)]
-    pub fn with_ratios(bar: Bar, ratios: Vec<f64>) -> Judged {
+    pub fn with_ratios(bar: &Bar, ratios: Vec<f64>) -> Judged {
         Judged {
             ratios,
             ..Judged::new(bar)
@@ -167,20 +167,31 @@ fn goal_text(goal: Option<f64>) -> String {
 /// Measures every kernel, all of them once before any of them again.
 pub fn judge(progress: &mut Progress) -> Result<Vec<Judged>, String> {
     let inputs = Inputs::new(SIZE);
-    let mut table: Vec<Judged> = BARS.into_iter().map(Judged::new).collect();
+    let mut table: Vec<Judged> = BARS.iter().map(Judged::new).collect();
     for _ in 0..MEASUREMENTS {
-        for judged in &mut table {
-            let kernel = judged.bar.kernel;
-            progress.begin(&kernel.name());
-            let ways = [Way::Ours, kernel.other()];
-            judged.push(&measure::compared(&kernel, &inputs, &ways, 1)?);
+        let measured = measured(&inputs, progress)?;
+        for (judged, times) in table.iter_mut().zip(&measured) {
+            judged.push(times);
         }
     }
     Ok(table)
 }
 
-/// The rows that `judge` goes through.
-pub const ROWS: usize = MEASUREMENTS * BARS.len();
+/// The times of every kernel in one measurement.
+fn measured(inputs: &Inputs, progress: &mut Progress) -> Result<Vec<Times>, String> {
+    let mut measured = vec![Times::default(); BARS.len()];
+    for _ in 0..ROUNDS {
+        for (Bar { kernel, .. }, times) in BARS.iter().zip(&mut measured) {
+            progress.begin(&kernel.name());
+            let ways = [Way::Ours, kernel.other()];
+            times.join(&measure::round(kernel, inputs, &ways)?);
+        }
+    }
+    Ok(measured)
+}
+
+/// How often `judge` begins a row.
+pub const ROWS: usize = MEASUREMENTS * ROUNDS * BARS.len();
 
 /// The columns of the table.
 const COLUMNS: [Column; 11] = [
@@ -247,7 +258,7 @@ mod tests {
     #[test]
     fn one_ratio_of_three_decides() {
         let bar = bar(Call::Sums, F32, 1.0, 0.5);
-        let verdict = |ratios: [f64; 3]| Judged::with_ratios(bar, ratios.to_vec()).verdict();
+        let verdict = |ratios: [f64; 3]| Judged::with_ratios(&bar, ratios.to_vec()).verdict();
         assert_eq!(verdict([0.4, 1.1, 0.4]), Some(Verdict::NotMet));
         assert_eq!(verdict([0.4, 0.4, 0.9]), Some(Verdict::Met));
         assert_eq!(verdict([0.6, 0.4, 0.4]), Some(Verdict::Towards));
@@ -256,7 +267,7 @@ mod tests {
 
     #[test]
     fn without_a_bar_there_is_no_verdict() {
-        let judged = Judged::with_ratios(no_bar(Call::Magnitude, INT8), vec![2.0; 3]);
+        let judged = Judged::with_ratios(&no_bar(Call::Magnitude, INT8), vec![2.0; 3]);
         assert_eq!(judged.verdict(), None);
         let cells = judged.cells();
         assert_eq!(cells[5..], ["2.000", "2.000", "2.000", "-", "-", "-"]);

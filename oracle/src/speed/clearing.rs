@@ -7,7 +7,6 @@ use std::hint::black_box;
 /// Stores to clear, and as much plain memory for each.
 pub struct Clearing {
     call: fn(&mut Ours),
-    numbers: usize,
     store_bytes: usize,
     shape: Shape,
     ours: Vec<Ours>,
@@ -20,7 +19,6 @@ impl Clearing {
         let rows = 2 * size.heads * size.positions;
         let mut bench = Clearing {
             call,
-            numbers: 2 * size.side_numbers(),
             store_bytes: rows * size.row_bytes(format),
             shape: size.shape(format),
             ours: Vec::new(),
@@ -32,10 +30,6 @@ impl Clearing {
 }
 
 impl Bench for Clearing {
-    fn numbers(&self) -> usize {
-        self.numbers
-    }
-
     fn agrees(&mut self) -> bool {
         self.prepare(Way::Ours);
         self.run(Way::Ours);
@@ -64,5 +58,36 @@ impl Bench for Clearing {
             Way::Rust => unreachable!("the Rust clears nothing"),
         }
         black_box(&mut self.memory);
+    }
+}
+
+#[cfg(test)]
+mod tests {
+    use super::*;
+    use crate::record::INT8;
+
+    #[test]
+    fn a_call_that_leaves_something_does_not_agree() {
+        let size = Size {
+            head_size: 4,
+            heads: 1,
+            positions: 2,
+        };
+        let leaves: [fn(&mut Ours); 4] = [
+            |_| (),
+            |ours| ours.cells.fill(0),
+            |ours| {
+                ours.truncate();
+                ours.scales[3] = 1;
+            },
+            |ours| {
+                ours.truncate();
+                ours.record.set_length(0, 1);
+            },
+        ];
+        for call in leaves {
+            assert!(!Clearing::new(call, size, INT8).agrees());
+        }
+        assert!(Clearing::new(Ours::truncate, size, INT8).agrees());
     }
 }

@@ -1,6 +1,6 @@
 //! Every call and format at many sizes.
 use super::kernel::{Call, Kernel, Way};
-use super::measure::{self, Times};
+use super::measure::{self, Times, ROUNDS};
 use super::progress::Progress;
 use super::stores::{Inputs, Size};
 use super::table::{line, number_or_dash, whole, Column};
@@ -18,10 +18,6 @@ pub const CALLS: [Call; 6] = [
 pub const HEAD_SIZES: [usize; 3] = [64, 128, 256];
 pub const HEADS: [usize; 2] = [1, 8];
 pub const POSITIONS: [usize; 4] = [16, 64, 512, 4096];
-
-/// How many times the rows of a head size and number of heads are gone through, each time with a share of the runs, so that
-/// a time in which the machine is slow does not fall on one row alone.
-const ROUNDS: usize = 3;
 
 /// A kernel at a size, and its times.
 pub struct Row {
@@ -98,8 +94,7 @@ pub fn measure(progress: &mut Progress) -> Result<Vec<Row>, String> {
             for (row, inputs) in rows.iter_mut().zip(inputs.iter().cycle()) {
                 progress.begin(&row.name());
                 let ways = row.kernel.ways();
-                let times = measure::compared(&row.kernel, inputs, ways, ROUNDS)?;
-                row.times.join(&times);
+                row.times.join(&measure::round(&row.kernel, inputs, ways)?);
             }
         }
         grid.append(&mut rows);
@@ -132,8 +127,8 @@ const COLUMNS: [Column; 8] = [
 /// Prints the table.
 pub fn print(grid: &[Row]) {
     println!("Grid: ours, and the least time of ours by that of the lifted Rust and of memory. Memory is what has to be");
-    println!("moved at least: append copies the numbers, open and truncate clear the bytes, read a row copies the row that");
-    println!("is read, scores and sums read the cells and scale words.");
+    println!("moved at least: append copies the numbers, open and truncate clear the bytes, read a row copies the row");
+    println!("that is read, scores and sums read the cells and scale words.");
     let header = [
         "",
         "D",

@@ -101,10 +101,6 @@ impl<'a> Scores<'a> {
 }
 
 impl Asking for Scores<'_> {
-    fn numbers(&self) -> usize {
-        self.heads.size.side_numbers()
-    }
-
     fn agrees(&mut self) -> bool {
         self.score();
         self.score_in_rust();
@@ -170,10 +166,6 @@ impl<'a> Sums<'a> {
 }
 
 impl Asking for Sums<'_> {
-    fn numbers(&self) -> usize {
-        self.heads.size.side_numbers()
-    }
-
     fn agrees(&mut self) -> bool {
         self.sum();
         self.sum_in_rust();

@@ -2,9 +2,9 @@
 use super::appending::Appending;
 use super::clearing::Clearing;
 use super::heads::{Scores, Sums};
-use super::magnitude::Magnitude;
+use super::magnitude::{self, Magnitude};
 use super::reading::Reading;
-use super::stores::{Inputs, Ours};
+use super::stores::{Inputs, Ours, Size};
 use crate::record::{BF16, F32, INT4, INT8};
 
 /// A way to do the work: the library's, the lifted Rust's, or the least that memory has to do for it.
@@ -28,6 +28,17 @@ pub enum Call {
 }
 
 impl Call {
+    /// Every call.
+    pub const ALL: [Call; 7] = [
+        Call::Open,
+        Call::Append,
+        Call::Truncate,
+        Call::Read,
+        Call::Scores,
+        Call::Sums,
+        Call::Magnitude,
+    ];
+
     /// Its name in a table.
     pub fn name(self) -> &'static str {
         match self {
@@ -38,6 +49,20 @@ impl Call {
             Call::Scores => "scores",
             Call::Sums => "sums",
             Call::Magnitude => "largest magnitude",
+        }
+    }
+
+    /// The state of memory before a run of it.
+    pub fn state(self) -> &'static str {
+        match self {
+            Call::Open | Call::Truncate => "dirty: every byte was just written over",
+            Call::Append => {
+                "warm: the same append was just made, and cut again; the layer is empty"
+            }
+            Call::Read => "warm: every row was just read",
+            Call::Scores => "warm: the same scores were just taken",
+            Call::Sums => "warm: the same sums were just taken",
+            Call::Magnitude => "warm: 64 runs of 128 numbers, just scanned",
         }
     }
 
@@ -68,7 +93,7 @@ impl Kernel {
     }
 
     /// The name of its format.
-    pub fn format_name(&self) -> &'static str {
+    fn format_name(&self) -> &'static str {
         match self.format {
             F32 => "F32",
             BF16 => "BF16",
@@ -92,8 +117,27 @@ impl Kernel {
         self.ways()[1]
     }
 
+    /// The numbers that one call of it goes through, or as many calls as go through a layer once.
+    pub fn numbers(&self, size: &Size) -> usize {
+        match self.call {
+            Call::Scores | Call::Sums => size.side_numbers(),
+            Call::Magnitude => magnitude::runs(size) * size.head_size,
+            _ => 2 * size.side_numbers(),
+        }
+    }
+
+    /// Its bench on some inputs, whose results were compared.
+    pub fn compared<'a>(&self, inputs: &'a Inputs) -> Result<Box<dyn Bench + 'a>, String> {
+        let mut bench = self.bench(inputs);
+        if bench.agrees() {
+            Ok(bench)
+        } else {
+            Err(format!("{}: the results differ", self.name()))
+        }
+    }
+
     /// Its bench on some inputs.
-    pub fn bench<'a>(&self, inputs: &'a Inputs) -> Box<dyn Bench + 'a> {
+    fn bench<'a>(&self, inputs: &'a Inputs) -> Box<dyn Bench + 'a> {
         let format = self.format;
         match self.call {
             Call::Open => Box::new(Clearing::new(Ours::open, inputs.size, format)),
@@ -109,9 +153,6 @@ impl Kernel {
 
 /// A kernel on memory of its own for each way. A run is one call of it, or several one after the other.
 pub trait Bench {
-    /// The numbers of one call.
-    fn numbers(&self) -> usize;
-
     /// Whether each way gives what it has to, bit by bit.
     fn agrees(&mut self) -> bool;
 
@@ -127,9 +168,6 @@ pub trait Bench {
 
 /// A call that leaves its store as it is, so that a run can make it on the same one again.
 pub trait Asking {
-    /// The numbers of one call.
-    fn numbers(&self) -> usize;
-
     /// Whether each way answers what it has to, bit by bit.
     fn agrees(&mut self) -> bool;
 
@@ -149,10 +187,6 @@ fn again<'a>(asking: impl Asking + 'a) -> Box<dyn Bench + 'a> {
 }
 
 impl<A: Asking> Bench for Again<A> {
-    fn numbers(&self) -> usize {
-        self.asking.numbers()
-    }
-
     fn agrees(&mut self) -> bool {
         self.asking.agrees()
     }
@@ -174,7 +208,6 @@ impl<A: Asking> Bench for Again<A> {
 
 #[cfg(test)]
 mod tests {
-    use super::super::stores::Size;
     use super::*;
 
     const SMALL: Size = Size {
@@ -185,20 +218,11 @@ mod tests {
 
     /// Every kernel there is.
     fn every_kernel() -> Vec<Kernel> {
-        let calls = [
-            Call::Open,
-            Call::Append,
-            Call::Truncate,
-            Call::Read,
-            Call::Scores,
-            Call::Sums,
-            Call::Magnitude,
-        ];
         let kernels = |call: Call| {
             let formats = call.formats().iter();
             formats.map(move |&format| Kernel { call, format })
         };
-        calls.into_iter().flat_map(kernels).collect()
+        Call::ALL.into_iter().flat_map(kernels).collect()
     }
 
     #[test]

@@ -1,12 +1,17 @@
 //! The largest magnitude of a run, as the INT8 scale finds it, here and in Rust.
 use super::kernel::{Asking, Way};
-use super::stores::Inputs;
+use super::stores::{Inputs, Size};
 use crate::boundary::int8_scale;
 use crate::rust::compute_int8_scale;
 use std::hint::black_box;
 
 /// Runs at most: as many as stay in the nearest cache, where an append has a row when it scans it.
-const RUNS: usize = 64;
+const MOST_RUNS: usize = 64;
+
+/// The runs that are scanned at a size; each is the row of a head.
+pub fn runs(size: &Size) -> usize {
+    MOST_RUNS.min(size.heads * size.positions)
+}
 
 /// The first rows of the keys, and a scale for each.
 pub struct Magnitude<'a> {
@@ -16,13 +21,13 @@ pub struct Magnitude<'a> {
 }
 
 impl<'a> Magnitude<'a> {
-    /// A run is the row of a head.
+    /// Room for a scale of each run.
     pub fn new(inputs: &'a Inputs) -> Magnitude<'a> {
-        let rows = inputs.size.heads * inputs.size.positions;
+        let runs = runs(&inputs.size);
         Magnitude {
             inputs,
-            scales: vec![0.0; rows.min(RUNS)],
-            rust_scales: vec![0.0; rows.min(RUNS)],
+            scales: vec![0.0; runs],
+            rust_scales: vec![0.0; runs],
         }
     }
 
@@ -54,10 +59,6 @@ impl<'a> Magnitude<'a> {
 }
 
 impl Asking for Magnitude<'_> {
-    fn numbers(&self) -> usize {
-        self.scales.len() * self.inputs.size.head_size
-    }
-
     fn agrees(&mut self) -> bool {
         self.scale();
         self.scale_in_rust();

@@ -3,11 +3,14 @@ use super::kernel::{Bench, Kernel, Way};
 use super::stores::Inputs;
 use std::time::Instant;
 
-/// Runs of each way where they are cheap, and where they are not.
-const MOST_RUNS: usize = 21;
-const LEAST_RUNS: usize = 5;
-/// The nanoseconds within which all runs of a way should stay.
-const ALL_RUNS: f64 = 0.4e9;
+/// The rounds over which the runs of a row are spread, with those of other rows between them, so that a time in which the
+/// machine is slow does not fall on one row alone.
+pub const ROUNDS: usize = 3;
+/// Runs of each way in a round where they are cheap, and where they are not.
+const MOST_RUNS: usize = 7;
+const LEAST_RUNS: usize = 2;
+/// The nanoseconds within which the runs of a way should stay in a round.
+const ALL_RUNS: f64 = 0.4e9 / ROUNDS as f64;
 /// The nanoseconds that a run has to take, so that reading the clock is no matter.
 const SHORTEST_RUN: f64 = 20e3;
 /// Calls of a run at most.
@@ -77,27 +80,19 @@ fn median(times: &[f64]) -> Option<f64> {
     times.get(times.len() / 2).copied()
 }
 
-/// Measures some ways of a kernel on some inputs, after its results were compared. Where a row is measured in several
-/// rounds, each has its share of the runs.
-pub fn compared(
-    kernel: &Kernel,
-    inputs: &Inputs,
-    ways: &[Way],
-    rounds: usize,
-) -> Result<Times, String> {
-    let mut bench = kernel.bench(inputs);
-    if !bench.agrees() {
-        return Err(format!("{}: the results differ", kernel.name()));
-    }
-    Ok(times(&mut *bench, ways, rounds))
+/// Measures some ways of a kernel on some inputs in one round, after its results were compared.
+pub fn round(kernel: &Kernel, inputs: &Inputs, ways: &[Way]) -> Result<Times, String> {
+    let mut bench = kernel.compared(inputs)?;
+    let numbers = kernel.numbers(&inputs.size);
+    Ok(times(&mut *bench, numbers, ways))
 }
 
-/// The times of some ways, a run of each in turn.
-fn times(bench: &mut dyn Bench, ways: &[Way], rounds: usize) -> Times {
+/// The times of some ways for one of so many numbers, a run of each way in turn.
+fn times(bench: &mut dyn Bench, numbers: usize, ways: &[Way]) -> Times {
     let (calls, longest) = lengthened(bench, ways);
-    let numbers = (calls * bench.numbers()) as f64;
+    let numbers = (calls * numbers) as f64;
     let mut times = Times::default();
-    for _ in 0..runs(longest, rounds) {
+    for _ in 0..runs(longest) {
         for &way in ways {
             times.push(way, timed(bench, way) / numbers);
         }
@@ -105,7 +100,7 @@ fn times(bench: &mut dyn Bench, ways: &[Way], rounds: usize) -> Times {
     times
 }
 
-/// Doubles the calls of a run until the quickest way takes long enough for the clock; the calls, and the slowest way's time.
+/// Doubles the calls of a run until the quickest way takes long enough; the calls, and the slowest way's time.
 fn lengthened(bench: &mut dyn Bench, ways: &[Way]) -> (usize, f64) {
     let mut calls = 1;
     loop {
@@ -124,10 +119,9 @@ fn lengthened(bench: &mut dyn Bench, ways: &[Way]) -> (usize, f64) {
     }
 }
 
-/// How many runs of so many nanoseconds each way is given in one of some rounds.
-fn runs(run: f64, rounds: usize) -> usize {
-    let all = ((ALL_RUNS / run) as usize).clamp(LEAST_RUNS, MOST_RUNS);
-    all.div_ceil(rounds)
+/// How many runs of so many nanoseconds each way is given.
+fn runs(run: f64) -> usize {
+    ((ALL_RUNS / run) as usize).clamp(LEAST_RUNS, MOST_RUNS)
 }
 
 /// The nanoseconds of a run that was prepared.
@@ -176,9 +170,9 @@ mod tests {
     }
 
     #[test]
-    fn long_runs_are_fewer_and_rounds_share_them() {
-        for (run, in_one, in_three) in [(0.0, 21, 7), (1e3, 21, 7), (4e7, 10, 4), (1e12, 5, 2)] {
-            assert_eq!((runs(run, 1), runs(run, 3)), (in_one, in_three), "{run}");
+    fn long_runs_are_fewer() {
+        for (run, wanted) in [(0.0, 7), (1e3, 7), (4e7, 3), (1e12, 2)] {
+            assert_eq!(runs(run), wanted, "{run}");
         }
     }
 
@@ -191,9 +185,6 @@ mod tests {
     }
 
     impl Bench for Counted {
-        fn numbers(&self) -> usize {
-            1
-        }
         fn agrees(&mut self) -> bool {
             true
         }
@@ -212,7 +203,7 @@ mod tests {
     #[test]
     fn every_run_is_prepared_and_every_way_has_as_many() {
         let mut bench = Counted::default();
-        let times = times(&mut bench, &[Way::Ours, Way::Memory], 1);
+        let times = times(&mut bench, 1, &[Way::Ours, Way::Memory]);
         let runs = times.of(Way::Ours).len();
         assert!((LEAST_RUNS..=MOST_RUNS).contains(&runs));
         assert_eq!(times.of(Way::Memory).len(), runs);

@@ -107,10 +107,6 @@ impl Reading {
 }
 
 impl Asking for Reading {
-    fn numbers(&self) -> usize {
-        2 * self.size.side_numbers()
-    }
-
     fn agrees(&mut self) -> bool {
         let in_rust = matches!(self.rust.layer_data[0], KvLayerData::INT4 { .. });
         let mut places = self.places();

@@ -1,0 +1,151 @@
+//! The instructions of the bars' kernels, counted by valgrind: no clock, and the same on a busy machine.
+use super::bars::{BARS, SIZE};
+use super::callgrind;
+use super::kernel::{Kernel, Way};
+use super::progress::Progress;
+use super::stores::Inputs;
+use super::table::{line, number, whole, Column};
+use std::collections::HashMap;
+use std::path::Path;
+use std::process::{self, Command, Stdio};
+use std::{env, fs, io};
+
+/// The command under which the oracle runs within valgrind.
+pub const COUNTING: &str = "counting";
+
+/// Instructions by the name of what they were counted for.
+type Counts = HashMap<String, u64>;
+
+/// Runs every kernel once each way and has its instructions counted.
+pub fn run_counted() -> Result<(), String> {
+    let inputs = Inputs::new(SIZE);
+    let mut progress = Progress::of(BARS.len());
+    for kernel in BARS.iter().map(|bar| bar.kernel) {
+        progress.begin(&kernel.name());
+        let mut bench = kernel.compared(&inputs)?;
+        for way in [Way::Ours, kernel.other()] {
+            bench.prepare(way);
+            callgrind::counted(&label(&kernel, way), || bench.run(way));
+        }
+    }
+    Ok(())
+}
+
+/// Runs the oracle within valgrind and prints what was counted.
+pub fn print() -> Result<(), String> {
+    let counts = taken().map_err(|error| error.to_string())?;
+    print_table(&counts)
+}
+
+/// The counts of a run within valgrind, whose files go to a folder that is gone afterwards.
+fn taken() -> io::Result<Counts> {
+    let folder = env::temp_dir().join(format!("oracle-counts-{}", process::id()));
+    fs::create_dir_all(&folder)?;
+    let counts = run_in(&folder).and_then(|()| counts_in(&folder));
+    fs::remove_dir_all(&folder)?;
+    counts
+}
+
+/// Runs the oracle within valgrind, which writes to a folder.
+fn run_in(folder: &Path) -> io::Result<()> {
+    let log = folder.join("log");
+    let ran = Command::new("valgrind")
+        .args(["--tool=callgrind", "--instr-atstart=no"])
+        .arg(format!(
+            "--callgrind-out-file={}",
+            folder.join("counts").display()
+        ))
+        .arg(format!("--log-file={}", log.display()))
+        .arg(env::current_exe()?)
+        .arg(COUNTING)
+        .stdout(Stdio::null())
+        .status()
+        .map_err(|error| io::Error::other(format!("valgrind: {error}")))?;
+    if ran.success() {
+        return Ok(());
+    }
+    let said = fs::read_to_string(log).unwrap_or_default();
+    Err(io::Error::other(format!("valgrind: {ran}\n{said}")))
+}
+
+/// The counts that stand in the files of a folder.
+fn counts_in(folder: &Path) -> io::Result<Counts> {
+    let mut counts = Counts::new();
+    for file in fs::read_dir(folder)? {
+        counts.extend(callgrind::parsed(&fs::read_to_string(file?.path())?));
+    }
+    Ok(counts)
+}
+
+/// What the instructions of a kernel are counted as.
+fn label(kernel: &Kernel, way: Way) -> String {
+    format!("{}, {way:?}", kernel.name())
+}
+
+/// The columns of the table.
+const COLUMNS: [Column; 4] = [
+    Column::Text(17),
+    Column::Number(6),
+    Column::Number(6),
+    Column::Number(6),
+];
+
+/// Prints instructions for one number, and their ratio.
+fn print_table(counts: &Counts) -> Result<(), String> {
+    println!(
+        "Instructions for one number, by callgrind: {} positions, H {}, D {}, against the lifted Rust, truncate and",
+        whole(SIZE.positions),
+        SIZE.heads,
+        SIZE.head_size
+    );
+    println!("open against clearing as many bytes. A byte that one instruction clears in its turn counts as one.");
+    println!("{}", line(&COLUMNS, &["", "ours", "other", "ratio"]));
+    for kernel in BARS.iter().map(|bar| bar.kernel) {
+        println!("{}", line(&COLUMNS, &cells(&kernel, counts)?));
+    }
+    Ok(())
+}
+
+/// A kernel's line of the table.
+fn cells(kernel: &Kernel, counts: &Counts) -> Result<[String; 4], String> {
+    let each = |way| {
+        let label = label(kernel, way);
+        let count = counts.get(&label).ok_or(format!("{label}: not counted"))?;
+        Ok::<f64, String>(*count as f64 / kernel.numbers(&SIZE) as f64)
+    };
+    let (ours, other) = (each(Way::Ours)?, each(kernel.other())?);
+    Ok([
+        kernel.name(),
+        number(ours),
+        number(other),
+        number(ours / other),
+    ])
+}
+
+#[cfg(test)]
+mod tests {
+    use super::*;
+
+    #[test]
+    fn a_line_has_both_counts_for_a_number_and_their_ratio() {
+        let kernel = BARS[0].kernel;
+        let numbers = kernel.numbers(&SIZE) as u64;
+        let mut counts = Counts::new();
+        counts.insert(label(&kernel, Way::Ours), 3 * numbers);
+        assert!(cells(&kernel, &counts).is_err());
+        counts.insert(label(&kernel, kernel.other()), 4 * numbers);
+        let wanted = ["scores F32", "3.000", "4.000", "0.750"];
+        assert_eq!(cells(&kernel, &counts).unwrap(), wanted);
+    }
+
+    #[test]
+    fn no_two_counts_have_one_label() {
+        let kernels = BARS.iter().map(|bar| bar.kernel);
+        let mut labels: Vec<String> = kernels
+            .flat_map(|kernel| [Way::Ours, kernel.other()].map(|way| label(&kernel, way)))
+            .collect();
+        labels.sort();
+        labels.dedup();
+        assert_eq!(labels.len(), 2 * BARS.len());
+    }
+}
