@@ -7,7 +7,7 @@ use super::table::{bytes, line, number_or_dash, whole, Column};
 /// The positions of the short layer and of the long one.
 const SHORT: usize = 64;
 const LONG: usize = 4096;
-/// The growth above which a row is marked.
+/// The growth above which a row is marked, and by which it is about as much as another.
 const MOST: f64 = 1.3;
 
 /// A short row of the grid and the long one of the same kernel, head size and heads.
@@ -22,13 +22,15 @@ impl Grown<'_> {
         Some(self.long.times.least(way)? / self.short.times.least(way)?)
     }
 
-    /// Whether ours grows too much, and whether memory does beside it.
+    /// Whether ours grows too much, and whether memory grows about as much beside it.
     fn mark(&self) -> &'static str {
-        let is_over = |way| self.growth(way).is_some_and(|growth| growth > MOST);
-        match (is_over(Way::Ours), is_over(Way::Memory)) {
-            (true, true) => "over, as memory",
-            (true, false) => "over",
-            _ => "",
+        let [ours, memory] = [Way::Ours, Way::Memory].map(|way| self.growth(way).unwrap_or(0.0));
+        if ours <= MOST {
+            ""
+        } else if ours <= MOST * memory {
+            "over, as memory"
+        } else {
+            "over"
         }
     }
 
@@ -114,7 +116,7 @@ pub fn print(grid: &[Row]) {
         SHORT,
         whole(LONG)
     );
-    println!("one call touches and that all do. A row of ours over {MOST} is marked.");
+    println!("one call touches and that all do. Ours over {MOST} is marked; as memory: at most {MOST} of memory's growth.");
     let header = [
         "", "D", "H", "ours", "Rust", "memory", "a call", "in all", "",
     ];
@@ -163,10 +165,12 @@ mod tests {
 
     #[test]
     fn growth_is_marked_above_its_edge() {
-        assert_eq!(marked(1.3, 9.0), (Some(1.3), ""));
-        assert_eq!(marked(1.301, 1.3), (Some(1.301), "over"));
-        assert_eq!(marked(2.0, 1.301), (Some(2.0), "over, as memory"));
         assert_eq!(marked(0.5, 0.5), (Some(0.5), ""));
+        assert_eq!(marked(1.3, 9.0), (Some(1.3), ""));
+        assert_eq!(marked(1.301, 1.0), (Some(1.301), "over"));
+        assert_eq!(marked(1.301, 1.001), (Some(1.301), "over, as memory"));
+        assert_eq!(marked(2.6, 2.0), (Some(2.6), "over, as memory"));
+        assert_eq!(marked(2.601, 2.0), (Some(2.601), "over"));
     }
 
     #[test]
