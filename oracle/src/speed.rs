@@ -88,8 +88,8 @@ fn told(path: &Path, error: io::Error) -> String {
 /// Prints what was measured on, and how.
 fn print_header() {
     println!("{}", machine::line());
-    println!("One layer that is full. Nanoseconds for one number, the least and the median of 6 to 21 runs. The ways of");
-    println!("a row take turns, each on memory of its own. Results were compared bit by bit before they were timed.");
+    println!("One layer that is full. Nanoseconds for one number, the least and the median of 6 to 21 runs. Ours, the Rust");
+    println!("and memory take turns. Results were compared bit by bit before they were timed.");
     for call in Call::ALL {
         println!("{:<19}{}", call.name(), call.state());
     }

@@ -1,19 +1,18 @@
 //! Append of all positions to an empty layer, here, in Rust with reserved vectors, and as a copy of the numbers.
 use super::kernel::{Bench, Way};
-use super::stores::{Inputs, Ours, DIRT};
+use super::stores::{Inputs, Ours};
 use crate::record::Shape;
 use crate::rows::{empty_store, Picture, Room};
 use crate::rust_store::KvStore;
 use std::hint::black_box;
 
-/// Empty stores on both sides of the boundary, and bytes to copy to as many places.
+/// Empty stores on both sides of the boundary, and as many places to copy keys and values to.
 pub struct Appending<'a> {
     inputs: &'a Inputs,
     shape: Shape,
     ours: Vec<Ours>,
     rust: Vec<KvStore>,
-    source: Vec<u8>,
-    copies: Vec<Vec<u8>>,
+    copies: Vec<Vec<u32>>,
 }
 
 impl<'a> Appending<'a> {
@@ -24,7 +23,6 @@ impl<'a> Appending<'a> {
             shape: inputs.size.shape(format),
             ours: Vec::new(),
             rust: Vec::new(),
-            source: vec![DIRT; 2 * 4 * inputs.size.side_numbers()],
             copies: Vec::new(),
         };
         bench.repeat(1);
@@ -66,7 +64,8 @@ impl Bench for Appending<'_> {
         self.ours.resize_with(calls, || Ours::opened(shape));
         self.rust
             .resize_with(calls, || empty_store(&shape, positions));
-        self.copies.resize(calls, self.source.clone());
+        let numbers = 2 * self.inputs.size.side_numbers();
+        self.copies.resize(calls, vec![0; numbers]);
     }
 
     fn prepare(&mut self, way: Way) {
@@ -86,8 +85,12 @@ impl Bench for Appending<'_> {
                 black_box(&mut self.rust);
             }
             Way::Memory => {
-                let copies = self.copies.iter_mut();
-                copies.for_each(|copy| copy.copy_from_slice(black_box(&self.source)));
+                let (keys, values) = (&inputs.keys.words, &inputs.values.words);
+                for copy in &mut self.copies {
+                    let (to_keys, to_values) = copy.split_at_mut(keys.len());
+                    to_keys.copy_from_slice(keys);
+                    to_values.copy_from_slice(values);
+                }
                 black_box(&mut self.copies);
             }
         }

@@ -1,28 +1,23 @@
-//! Open and truncate: calls that clear a full store, beside clearing as many bytes.
+//! Open and truncate: calls that clear a full store, beside clearing the same bytes.
 use super::kernel::{Bench, Way};
-use super::stores::{Ours, Size, DIRT};
+use super::stores::{Ours, Size};
 use crate::record::Shape;
 use std::hint::black_box;
 
-/// Stores to clear, and as much plain memory for each.
+/// Stores to clear.
 pub struct Clearing {
     call: fn(&mut Ours),
-    store_bytes: usize,
     shape: Shape,
-    ours: Vec<Ours>,
-    memory: Vec<Vec<u8>>,
+    stores: Vec<Ours>,
 }
 
 impl Clearing {
     /// One store for a call that clears it.
     pub fn new(call: fn(&mut Ours), size: Size, format: u32) -> Clearing {
-        let rows = 2 * size.heads * size.positions;
         let mut bench = Clearing {
             call,
-            store_bytes: rows * size.row_bytes(format),
             shape: size.shape(format),
-            ours: Vec::new(),
-            memory: Vec::new(),
+            stores: Vec::new(),
         };
         bench.repeat(1);
         bench
@@ -33,31 +28,26 @@ impl Bench for Clearing {
     fn agrees(&mut self) -> bool {
         self.prepare(Way::Ours);
         self.run(Way::Ours);
-        self.ours.iter().all(Ours::is_new)
+        self.stores.iter().all(Ours::is_new)
     }
 
     fn repeat(&mut self, calls: usize) {
         let shape = self.shape;
-        self.ours.resize_with(calls, || Ours::opened(shape));
-        self.memory.resize(calls, vec![DIRT; self.store_bytes]);
+        self.stores.resize_with(calls, || Ours::opened(shape));
     }
 
-    fn prepare(&mut self, way: Way) {
-        match way {
-            Way::Ours => self.ours.iter_mut().for_each(Ours::soil),
-            Way::Memory => self.memory.iter_mut().for_each(|bytes| bytes.fill(DIRT)),
-            Way::Rust => unreachable!("the Rust clears nothing"),
-        }
-        black_box(&mut self.memory);
+    fn prepare(&mut self, _: Way) {
+        self.stores.iter_mut().for_each(Ours::soil);
+        black_box(&mut self.stores);
     }
 
     fn run(&mut self, way: Way) {
         match way {
-            Way::Ours => self.ours.iter_mut().for_each(self.call),
-            Way::Memory => self.memory.iter_mut().for_each(|bytes| bytes.fill(0)),
+            Way::Ours => self.stores.iter_mut().for_each(self.call),
+            Way::Memory => self.stores.iter_mut().for_each(Ours::clear),
             Way::Rust => unreachable!("the Rust clears nothing"),
         }
-        black_box(&mut self.memory);
+        black_box(&mut self.stores);
     }
 }
 

@@ -1,4 +1,4 @@
-//! Scores and sums of all positions, head after head, here, by the lifted halves, and as a reading of as many bytes.
+//! Scores and sums of all positions, head after head, here, by the lifted halves, and as a reading of the same bytes.
 use super::kernel::{Asking, Way};
 use super::stores::{Inputs, Ours, Size};
 use crate::replies::Head;
@@ -7,12 +7,15 @@ use crate::rust_store::KvStore;
 use crate::{boundary, heads};
 use std::hint::black_box;
 
-/// Full stores on both sides of the boundary, as much memory as the rows of one side, and what is answered.
+/// The sides of a layer.
+const KEYS: usize = 0;
+const VALUES: usize = 1;
+
+/// Full stores on both sides of the boundary, and what is answered.
 struct Heads {
     size: Size,
     ours: Ours,
     rust: KvStore,
-    memory: Vec<u64>,
     answer: Vec<u32>,
     rust_answer: Vec<f32>,
 }
@@ -20,13 +23,10 @@ struct Heads {
 impl Heads {
     /// Full stores, and room for so many answers of all heads.
     fn new(inputs: &Inputs, format: u32, answers: usize) -> Heads {
-        let size = inputs.size;
-        let rows = size.heads * size.positions;
         Heads {
-            size,
+            size: inputs.size,
             ours: inputs.in_ours(format),
             rust: inputs.in_rust(format),
-            memory: vec![1; rows * size.row_bytes(format) / 8],
             answer: vec![0; answers],
             rust_answer: vec![0.0; answers],
         }
@@ -39,16 +39,36 @@ impl Heads {
         ours.map(word_of).eq(rust.map(word_of))
     }
 
-    /// Reads as many bytes as lie in the rows of one side, head after head.
-    fn read_memory(&self) {
-        for head in self
-            .memory
-            .chunks_exact(self.memory.len() / self.size.heads)
-        {
-            let words = black_box(head).iter();
-            black_box(words.fold(0u64, |sum, word| sum.wrapping_add(*word)));
+    /// Reads the cells and scale words of one side, keys or values, head after head.
+    fn read_memory(&self, side: usize) {
+        let (cells, scales) = (&self.ours.cells, &self.ours.scales);
+        let (head_cells, head_scales) = (
+            cells.len() / 2 / self.size.heads,
+            scales.len() / 2 / self.size.heads,
+        );
+        for block in side * self.size.heads..(side + 1) * self.size.heads {
+            let cells = &cells[block * head_cells..(block + 1) * head_cells];
+            let scales = &scales[block * head_scales..(block + 1) * head_scales];
+            black_box((
+                sum_of_cells(black_box(cells)),
+                sum_of_scales(black_box(scales)),
+            ));
         }
     }
+}
+
+/// The sum of cells as words of 64 bits.
+fn sum_of_cells(cells: &[u8]) -> u64 {
+    let words = cells.chunks_exact(8).map(|bytes| {
+        let bytes: [u8; 8] = bytes.try_into().expect("a chunk has 8 bytes");
+        u64::from_le_bytes(bytes)
+    });
+    words.fold(0, u64::wrapping_add)
+}
+
+/// The sum of scale words.
+fn sum_of_scales(scales: &[u32]) -> u32 {
+    scales.iter().copied().fold(0, u32::wrapping_add)
 }
 
 /// Scores of each head under a query.
@@ -111,7 +131,7 @@ impl Asking for Scores<'_> {
         match way {
             Way::Ours => self.score(),
             Way::Rust => self.score_in_rust(),
-            Way::Memory => self.heads.read_memory(),
+            Way::Memory => self.heads.read_memory(KEYS),
         }
     }
 }
@@ -176,7 +196,7 @@ impl Asking for Sums<'_> {
         match way {
             Way::Ours => self.sum(),
             Way::Rust => self.sum_in_rust(),
-            Way::Memory => self.heads.read_memory(),
+            Way::Memory => self.heads.read_memory(VALUES),
         }
     }
 }

@@ -151,7 +151,8 @@ impl Kernel {
     }
 }
 
-/// A kernel on memory of its own for each way. A run is one call of it, or several one after the other.
+/// A kernel on a store of ours and, where the Rust has it, on one of the Rust's; memory is moved where ours lies. A run is
+/// one call of it, or several one after the other.
 pub trait Bench {
     /// Whether each way gives what it has to, bit by bit.
     fn agrees(&mut self) -> bool;

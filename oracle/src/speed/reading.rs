@@ -1,6 +1,6 @@
-//! Every row of a full layer read once, here, in INT4 by the lifted unpacking, and as a copy of as many bytes.
+//! Every row of a full layer read once, here, in INT4 by the lifted unpacking, and as a copy of bytes.
 use super::kernel::{Asking, Way};
-use super::stores::{Inputs, Ours, Size, DIRT};
+use super::stores::{Inputs, Ours, Size};
 use crate::boundary;
 use crate::replies::Place;
 use crate::rows::row_of;
@@ -8,31 +8,29 @@ use crate::rust::{unpack_i4_group, INT4_GROUP_SIZE};
 use crate::rust_store::{KvLayerData, KvStore};
 use std::hint::black_box;
 
-/// Full stores on both sides of the boundary, bytes to copy rows from, and a row for each way.
+/// Full stores on both sides of the boundary, and a row for each way.
 pub struct Reading {
     size: Size,
     format: u32,
     ours: Ours,
     rust: KvStore,
-    memory: Vec<u8>,
     row: Vec<u32>,
     rust_row: Vec<f32>,
     copy: Vec<u8>,
 }
 
 impl Reading {
-    /// Full stores. The memory is as long as the cells and one copy more.
+    /// Full stores.
     pub fn new(inputs: &Inputs, format: u32) -> Reading {
-        let (size, ours) = (inputs.size, inputs.in_ours(format));
+        let size = inputs.size;
         Reading {
             size,
             format,
+            ours: inputs.in_ours(format),
             rust: inputs.in_rust(format),
-            memory: vec![DIRT; ours.cells.len() + 4 * size.head_size],
             row: vec![0; size.head_size],
             rust_row: vec![0.0; size.head_size],
             copy: vec![0; 4 * size.head_size],
-            ours,
         }
     }
 
@@ -79,13 +77,14 @@ impl Reading {
         black_box(&mut self.rust_row);
     }
 
-    /// Copies as many bytes as each row reads as, from where its cells would lie.
+    /// Copies as many bytes as each row reads as, from its cells on; for the last rows, the last so many.
     fn copy_rows(&mut self) {
-        let rows = 2 * self.size.heads * self.size.positions;
-        let row_bytes = (self.memory.len() - self.copy.len()) / rows;
-        for row in 0..rows {
-            let first = row * row_bytes;
-            let bytes = &self.memory[first..first + self.copy.len()];
+        let cells = &self.ours.cells;
+        let row_bytes = cells.len() / (2 * self.size.heads * self.size.positions);
+        let last = cells.len() - self.copy.len();
+        for row in (0..cells.len()).step_by(row_bytes) {
+            let first = row.min(last);
+            let bytes = &cells[first..first + self.copy.len()];
             self.copy.copy_from_slice(bytes);
             black_box(&mut self.copy);
         }

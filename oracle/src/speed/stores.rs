@@ -7,7 +7,7 @@ use crate::rust_store::KvStore;
 use crate::words;
 
 /// What memory holds before it is cleared.
-pub const DIRT: u8 = 0xA5;
+const DIRT: u8 = 0xA5;
 
 /// The sizes of one layer that is full.
 #[derive(Clone, Copy, Debug, PartialEq, Eq, PartialOrd, Ord)]
@@ -124,6 +124,12 @@ impl Ours {
         self.record.set_length(0, self.shape.capacity as usize);
         self.cells.fill(DIRT);
         self.scales.fill(u32::from(DIRT));
+    }
+
+    /// Clears both buffers, and nothing else.
+    pub fn clear(&mut self) {
+        self.cells.fill(0);
+        self.scales.fill(0);
     }
 
     /// Whether it is a newly opened store.
