@@ -7,7 +7,7 @@ use shapes::in_limits;
 use shapes::scale_words;
 ghost use mathlib.Core.Path.{_≡_};
 ghost use mathlib.Core.Bool.{true};
-ghost use Prim.Native.Nat.{_*_, _≤_, _<_};
+ghost use Prim.Native.Nat.{_*_, _≤_, _<_, min};
 ghost use lib.ListN.{length, replicate};
 ghost use Rattle.lists.specs.Chunks.{joined};
 ghost use Rattle.replies.specs.Outcome.{answered};
@@ -161,7 +161,7 @@ fn clear_sides(shape: Shape, p: usize, n: usize, cells: &mut [u8], scales: &mut 
     clear_side(shape, p, n, &mut cells[c..c + c], &mut scales[w..w + w]);
 }
 
-// One position after the other, since their numbers lie so: memory is read in its order, and each head's block grows.
+// Eight positions at a time, since their numbers lie side by side: memory is read nearly in its order.
 fn put_positions(
     shape: Shape,
     p: usize,
@@ -178,10 +178,18 @@ fn put_positions(
     let width = shape.heads as usize * shape.head_size as usize;
     let mut j = 0;
     while j < n {
+        let k = next_positions(n - j);
         let a = j * width;
-        put_side(shape, p + j, 1, &numbers[a..a + width], cells, scales);
-        j += 1;
+        put_side(shape, p + j, k, &numbers[a..a + k * width], cells, scales);
+        j += k;
     }
+}
+
+// How many positions are written next: eight while there are as many.
+fn next_positions(left: usize) -> usize
+    ensures { λ r. ⌜ r ≡ min left 8 ⌝ }
+{
+    if left < 8 { left } else { 8 }
 }
 
 fn put_side(shape: Shape, p: usize, n: usize, numbers: &[u32], cells: &mut [u8], scales: &mut [u32])

@@ -1,12 +1,11 @@
--- The positions passed have their rows, and each turn writes one more in every head.
-use mathlib.Core.Path.{refl, sym, _∙_}
-use Prim.Native.Nat.{_+_, _-_, _*_, _≤_}
-use native.Mathlib.Nat.{le-add-right, one-mul}
+-- The positions passed have their rows, and each turn writes some more in every head.
+use mathlib.Core.Path.{refl, _∙_}
+use Prim.Native.Nat.{_+_, _-_, _*_, _≤_, _<_}
+use native.Mathlib.Nat.{le-add-right, add-mul, mul-le-mul-right}
 use native.Mathlib.Omega.{arith}
-use borrow.Author.Count.{falls}
 use borrow.Author.Needs.{needs}
 use lib.ListN.{length}
-use Rattle.lists.proofs.Part.{room, lent-count}
+use Rattle.lists.proofs.Part.{lent-count}
 use Rattle.shapes.specs.Shape.{bytesOf, wordsOf, width}
 use Rattle.shapes.proofs.ShapeLaws.{width-in}
 use Rattle.rows.specs.Row.{rowCells, rowScales}
@@ -38,13 +37,20 @@ words-known c =
     let a = c .before .before .before .before .before .before .pre in
     record { span = a .0 .span; sized = scale-rows _ _ (a .0 .in-limits) _ (a .1); whole = a .0 .scale-size }
 
--- the position's numbers lie in the slice
-run-in : (c : tie.In-loop Inv-loop μ-loop)
-    → let a = c .before .before .before .before .before .before .before .args in
-    c .before .loop .j * width (a .shape) + width (a .shape) ≤ length (a .numbers .now)
+-- some positions are left, and so are those that are written next
+left : (c : tie.After-next-positions Inv-loop μ-loop)
+    → let k = c .next-positions .result in
+    let j = c .before .before .loop .j in (0 < k) × (j + k ≤ c .before .before .before .before .before .before .before .before .args .n)
+left c = let e = c .next-positions .ensures in let w = c .before .loop-test .taken in (omega arith, omega arith)
+
+-- their numbers lie in the slice
+run-in : (c : tie.After-next-positions Inv-loop μ-loop)
+    → let a = c .before .before .before .before .before .before .before .before .args in
+    c .before .before .loop .j * width (a .shape) + c .next-positions .result * width (a .shape) ≤ length (a .numbers .now)
 run-in c =
-    let a = c .before .before .before .before .before .before .before in
-    rw (a .pre .1) (room (width (a .args .shape)) (c .loop-test .taken))
+    let a = c .before .before .before .before .before .before .before .before in
+    rw (a .pre .1, ← add-mul (c .before .before .loop .j) (c .next-positions .result) (width (a .args .shape)))
+    (mul-le-mul-right (width (a .args .shape)) (left c .1))
 
 cast-width : tie.Need-cast-width Inv-loop μ-loop
 cast-width c = search needs
@@ -60,17 +66,27 @@ loop-holds c =
     let a = c .before .before .before .before .before .args in
     (no-positions _ _ _ _ (rowCells (a .shape .format)) (a .numbers .now) _, no-positions _ _ _ _ (rowScales (a .shape .format)) (a .numbers .now) _)
 
+sub-next-positions : tie.Need-sub-next-positions Inv-loop μ-loop
+sub-next-positions c = search needs
+
+next-positions-requires : tie.Need-next-positions-requires Inv-loop μ-loop
+next-positions-requires c κs = search needs
+
 mul-a : tie.Need-mul-a Inv-loop μ-loop
 mul-a c = omega (arith, run-in c)
 
 add-put-side : tie.Need-add-put-side Inv-loop μ-loop
-add-put-side c = let a = c .before .before .before .before .before .before .before in omega (arith, a .pre .0 .span)
+add-put-side c =
+    let a = c .before .before .before .before .before .before .before .before in omega (arith, a .pre .0 .span, left c .1)
+
+mul-put-side : tie.Need-mul-put-side Inv-loop μ-loop
+mul-put-side c = omega (arith, run-in c)
 
 add-put-side-2 : tie.Need-add-put-side-2 Inv-loop μ-loop
 add-put-side-2 c = omega (arith, run-in c)
 
-mul-put-side : tie.Need-mul-put-side Inv-loop μ-loop
-mul-put-side c = omega (arith, run-in c)
+mul-put-side-2 : tie.Need-mul-put-side-2 Inv-loop μ-loop
+mul-put-side-2 c = omega (arith, run-in c)
 
 sub-put-side : tie.Need-sub-put-side Inv-loop μ-loop
 sub-put-side c = le-add-right _ _
@@ -83,29 +99,35 @@ part-put-side-end c = run-in c
 
 put-side-requires : tie.Need-put-side-requires Inv-loop μ-loop
 put-side-requires c κs =
-    let l = c .before .before .before .before in
+    let k = c .before .before .before in
+    let l = k .before .before in
     let a = l .before .before .before .before .before .before in (
       record {
         in-limits = a .pre .0 .in-limits;
-        span = omega (arith, a .pre .0 .span, c .before .before .before .loop-test .taken);
+        span = omega (arith, a .pre .0 .span, left k .1);
         cell-size = l .loop .inv .0 .2 ∙ a .pre .0 .cell-size;
         scale-size = l .loop .inv .1 .2 ∙ a .pre .0 .scale-size;
       },
-      c .before .before .put-side-arg .given .2 ∙ lent-count _ refl (sym (one-mul _)),
+      c .before .before .put-side-arg .given .2 ∙ lent-count _ refl refl,
     )
 
 add-j : tie.Need-add-j Inv-loop μ-loop
-add-j c = search needs
+add-j c =
+    let k = c .before .before .before .before .before .before .before .before in
+    omega (arith, left k .1)
 
 loop-less : tie.Need-loop-less Inv-loop μ-loop
-loop-less c = falls _ _ (c .before .before .before .before .before .before .before .before .loop-test .taken)
+loop-less c =
+    let k = c .before .before .before .before .before .before .before .before in
+    omega (arith, left k .0, left k .1)
 
 loop-again : tie.Need-loop-again Inv-loop μ-loop
 loop-again c =
-    let l = c .before .before .before .before .before .before .before .before .before in
+    let k = c .before .before .before .before .before .before .before .before in
+    let l = k .before .before in
     let y = c .before .before .before .before .put-side .ensures in
-    let w = c .before .before .before .before .before .before .before .before .loop-test .taken in
-    (position-turn (cells-known l) (l .loop .inv .0) w refl (y .0), position-turn (words-known l) (l .loop .inv .1) w refl (y .1))
+    let w = left k .1 in
+    (position-turn (cells-known l) _ (l .loop .inv .0) w refl (y .0), position-turn (words-known l) _ (l .loop .inv .1) w refl (y .1))
 
 same-length : tie.Need-same-length Inv-loop μ-loop
 same-length c = c .before .loop .inv .0 .2
@@ -128,10 +150,13 @@ put-positions-spec =
     cast-width-2
     mul-width
     loop-holds
+    sub-next-positions
+    next-positions-requires
     mul-a
     add-put-side
-    add-put-side-2
     mul-put-side
+    add-put-side-2
+    mul-put-side-2
     sub-put-side
     part-put-side-start
     part-put-side-end
