@@ -20,10 +20,34 @@ pub summed-next : (n : ℕ) (term : ℕ → Float) {x y : Float} → x ≡ summe
 unfolding summed
 summed-next n term o e = turns-next n (λ i sum. add binary32 sum (term i)) (float 0) o e
 
+-- terms added to a list, and to a table
+added-is : (term : ℕ → Float) (l : List Float) → added term l ≡ tab (length l) (λ i. add binary32 (getD l i nan) (term i))
+unfolding added
+added-is term l = refl
+
+added-tab : (n : ℕ) (term : ℕ → Float) (f : ℕ → Float) → added term (tab n f) ≡ tab n (λ i. add binary32 (f i) (term i))
+unfolding added
+added-tab n term f = rw tab-length (tab-same n _ _ (λ i b. rw tab-getD))
+
+-- the terms of four rows added at a place, one after the other
+module _ (t0 t1 t2 t3 : ℕ → Float) (l : List Float) where
+  abbrev pub fourTerms : ℕ → Float
+  fourTerms i = add binary32 (add binary32 (add binary32 (add binary32 (getD l i nan) (t0 i)) (t1 i)) (t2 i)) (t3 i)
+
+  -- at the next place
+  pub four-next : (j : ℕ) {out : List Float} {x y z v : Float} → j < length l → out ≡ tab j fourTerms ++ drop j l
+      → x ≡ add binary32 (getD out j nan) (t0 j) → y ≡ add binary32 x (t1 j) → z ≡ add binary32 y (t2 j) → v ≡ add binary32 z (t3 j)
+      → set out j v ≡ tab (j + 1) fourTerms ++ drop (j + 1) l
+  four-next j h o e0 e1 e2 e3 = tab-set j _ l h o (rw (e3, e2, e1, e0, o, tab-next))
+
+  -- at every place
+  pub four-all : {j : ℕ} {out : List Float} → out ≡ tab j fourTerms ++ drop j l → j ≡ length l → out ≡ added t3 (added t2 (added t1 (added t0 l)))
+  four-all o e = tab-done (length l) _ l o e refl ∙ rw (added-is t0 l, added-tab, added-tab, added-tab)
+
 -- the two loop orders: one position's terms added to the sums of the positions before it, and all positions
 pub rows-turn : (d p : ℕ) (term : ℕ → ℕ → Float) {cur : List Float} → cur ≡ sumsOf d p term → added (term p) cur ≡ sumsOf d (p + 1) term
-unfolding added sumsOf
-rows-turn d p term e = rw (e, tab-length) (tab-same d _ _ (λ i b. rw tab-getD (summed-next p (λ q. term q i) refl refl)))
+unfolding sumsOf
+rows-turn d p term e = rw (e, added-tab) (tab-same d _ _ (λ i b. summed-next p (λ q. term q i) refl refl))
 
 pub rows-columns : (d m : ℕ) (term : ℕ → ℕ → Float) → turns m (λ p. added (term p)) (replicate d (float 0)) ≡ sumsOf d m term
 unfolding turns sumsOf summed

@@ -1,10 +1,15 @@
-// One weighted row added to a head's sums, in each format that has them.
+// Weighted rows added to a head's sums, in each format that has them.
 use crate::stored::code_from;
 use crate::stored::number_at;
+use crate::stored::plain_at;
 use numbers::words::word_to_f32;
 ghost use mathlib.Core.Path.{_≡_};
+ghost use mathlib.Core.Bool.{false};
+ghost use Prim.Native.Nat.{_+_, _*_, _≤_};
 ghost use lib.ListN.{length};
-ghost use lib.Ieee.{binary32, mul};
+ghost use lib.Ieee.{binary32, add, mul, nanBits};
+ghost use Rattle.lists.specs.Chunks.{some};
+ghost use Rattle.rows.specs.Row.{f32At};
 ghost use Rattle.blocks.specs.Order.{groupCode, f32Term, int4Term, rowTerm, added};
 ghost use Rattle.blocks.specs.Fits.{Rows, IsF32, IsInt4};
 
@@ -28,6 +33,49 @@ fn add_f32(weight: f32, cells: &[u8], out: &mut [f32])
         out[d] = out[d] + weight * number_at(cells, d);
         d += 1;
     }
+}
+
+// Four F32 rows without a NaN: each sum takes their terms in order.
+fn add_plain(
+    w0: f32,
+    w1: f32,
+    w2: f32,
+    w3: f32,
+    r0: &[u8],
+    r1: &[u8],
+    r2: &[u8],
+    r3: &[u8],
+    out: &mut [f32],
+)
+    requires { ⌜ IsF32 (length (now out)) (length (now r0)) × (some (length (now out)) (λ d. nanBits binary32 (f32At (now r0) d)) ≡ false) ⌝ }
+    requires { ⌜ IsF32 (length (now out)) (length (now r1)) × (some (length (now out)) (λ d. nanBits binary32 (f32At (now r1) d)) ≡ false) ⌝ }
+    requires { ⌜ IsF32 (length (now out)) (length (now r2)) × (some (length (now out)) (λ d. nanBits binary32 (f32At (now r2) d)) ≡ false) ⌝ }
+    requires { ⌜ IsF32 (length (now out)) (length (now r3)) × (some (length (now out)) (λ d. nanBits binary32 (f32At (now r3) d)) ≡ false) ⌝ }
+    ensures { λ _.
+        ⌜
+        now (out .exit)
+        ≡ added (f32Term w3 (now (r3 .entry)))
+        (added (f32Term w2 (now (r2 .entry)))
+        (added (f32Term w1 (now (r1 .entry)))
+        (added (f32Term w0 (now (r0 .entry))) (now (out .entry)))))
+        ⌝ }
+{
+    let mut d = 0;
+    while d < out.len() {
+        let x = with_term(out[d], w0, r0, d);
+        let y = with_term(x, w1, r1, d);
+        let z = with_term(y, w2, r2, d);
+        out[d] = with_term(z, w3, r3, d);
+        d += 1;
+    }
+}
+
+// A sum and one row's term.
+fn with_term(sum: f32, weight: f32, cells: &[u8], d: usize) -> f32
+    requires { ⌜ (d * 4 + 4 ≤ length (now cells)) × (nanBits binary32 (f32At (now cells) d) ≡ false) ⌝ }
+    ensures { λ r. ⌜ r ≡ add binary32 sum (f32Term weight (now (cells .entry)) d) ⌝ }
+{
+    sum + weight * plain_at(cells, d)
 }
 
 // The Rust's `sv_accum_i4`.
