@@ -17,11 +17,15 @@ module _ {A : Type 0} where
   pub turns-next : (j : ℕ) (f : ℕ → A → A) (x : A) {y z : A} → y ≡ turns j f x → z ≡ f j y → z ≡ turns (j + 1) f x
   turns-next j f x o e = e ∙ rw o (turns-turn j f x)
 
-  -- k turns more from there, where the first is turn j
-  pub turns-more : (j k : ℕ) (f : ℕ → A → A) (x : A) {y z : A} → y ≡ turns j f x → z ≡ turns k (λ i. f (j + i)) y → z ≡ turns (j + k) f x
+  -- p turns, then the k after them
+  pub turns-add : (p k : ℕ) (f : ℕ → A → A) (x : A) → turns (p + k) f x ≡ turns k (λ i. f (p + i)) (turns p f x)
   unfolding turns
-  turns-more j zero f x o e = e ∙ rw (add-zero, o)
-  turns-more j (suc k) f x o e = e ∙ rw (add-suc, turns-more j k f x o refl)
+  turns-add p zero f x = rw add-zero
+  turns-add p (suc k) f x = rw add-suc (ap (f (p + k)) (turns-add p k f x))
+
+  -- the same of what a loop has in hand: y after j turns, and z after k more
+  pub turns-more : (j k : ℕ) (f : ℕ → A → A) (x : A) {y z : A} → y ≡ turns j f x → z ≡ turns k (λ i. f (j + i)) y → z ≡ turns (j + k) f x
+  turns-more j k f x o e = e ∙ rw (o, turns-add)
 
   -- turns that agree at each value that is reached end alike
   pub turns-same : (n : ℕ) (f g : ℕ → A → A) (x : A)
