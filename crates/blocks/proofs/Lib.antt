@@ -4,4 +4,5 @@ pub mod GroupLaws
 pub mod OrderLaws
 pub mod PartLaws
 pub mod RowLaws
+pub mod SumLaws
 pub mod WordLaws

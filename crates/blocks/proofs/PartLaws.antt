@@ -18,7 +18,7 @@ use Rattle.blocks.specs.Block.{cellsOf, scalesOf, blockScores}
 use Rattle.blocks.specs.Fits.{Rows}
 
 -- where it lies, and how long it is, of cells or of scale words
-part-in : (b p n : ℕ) {m r size : ℕ} → r ≡ b → size ≡ m * b → p + n ≤ m → p * r + n * r ≤ size
+pub part-in : (b p n : ℕ) {m r size : ℕ} → r ≡ b → size ≡ m * b → p + n ≤ m → p * r + n * r ≤ size
 part-in b p n e q h = rw (e, q, ← add-mul p n b) (mul-le-mul-right b h)
 
 part-count : (b p n : ℕ) {m r : ℕ} (l : List ℕ) {x : List ℕ} → r ≡ b → length l ≡ m * b → p + n ≤ m

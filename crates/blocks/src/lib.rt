@@ -15,7 +15,8 @@ use rows::rows_fit;
 use scores::score_row;
 use shapes::cell_bytes;
 use shapes::scale_words;
-use sums::add_row;
+use sums::add_four;
+use sums::add_rest;
 ghost use mathlib.Core.Path.{_≡_};
 ghost use mathlib.Core.List.{_++_};
 ghost use Prim.Native.Nat.{_≤_};
@@ -189,7 +190,7 @@ fn zero_numbers(out: &mut [f32])
     }
 }
 
-// Adds the terms of each position to what is there.
+// Adds the terms of each position to what is there: four rows at a time, and what is left row by row.
 fn add_rows(format: u32, weights: &[f32], cells: &[u8], scales: &[u32], out: &mut [f32])
     requires { ⌜ Rows format (length (now out)) (length (now weights)) (length (now cells)) (length (now scales)) ⌝ }
     ensures { λ _.
@@ -203,10 +204,19 @@ fn add_rows(format: u32, weights: &[f32], cells: &[u8], scales: &[u32], out: &mu
     let c = cell_bytes(format, out.len() as u32);
     let w = scale_words(format, out.len() as u32);
     let mut p = 0;
-    while p < weights.len() {
+    while 4 <= weights.len() - p {
         let a = p * c;
         let b = p * w;
-        add_row(format, weights[p], &cells[a..a + c], &scales[b..b + w], out);
-        p += 1;
+        add_four(
+            format,
+            &weights[p..p + 4],
+            &cells[a..a + 4 * c],
+            &scales[b..b + 4 * w],
+            out,
+        );
+        p += 4;
     }
+    let a = p * c;
+    let b = p * w;
+    add_rest(format, &weights[p..], &cells[a..], &scales[b..], out);
 }

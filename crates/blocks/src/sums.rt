@@ -1,19 +1,78 @@
 // Weighted rows added to a head's sums, in each format that has them.
+use crate::fours::cells_of;
 use crate::stored::code_from;
+use crate::stored::nans;
 use crate::stored::number_at;
 use crate::stored::plain_at;
 use numbers::words::word_to_f32;
+use shapes::cell_bytes;
+use shapes::scale_words;
 ghost use mathlib.Core.Path.{_≡_};
 ghost use mathlib.Core.Bool.{false};
 ghost use Prim.Native.Nat.{_+_, _*_, _≤_};
 ghost use lib.ListN.{length};
 ghost use lib.Ieee.{binary32, add, mul, nanBits};
-ghost use Rattle.lists.specs.Chunks.{some};
+ghost use Rattle.lists.specs.Chunks.{turns, some};
+ghost use Rattle.rows.specs.Calls.{buffers};
 ghost use Rattle.rows.specs.Row.{f32At};
 ghost use Rattle.blocks.specs.Order.{groupCode, f32Term, int4Term, rowTerm, added};
+ghost use Rattle.blocks.specs.Block.{blockTerm};
 ghost use Rattle.blocks.specs.Fits.{Rows, IsF32, IsInt4};
 
-pub(crate) fn add_row(format: u32, weight: f32, cells: &[u8], scales: &[u32], out: &mut [f32])
+// Adds the terms of four rows that lie one after the other, at once where they are F32 and a scan finds no NaN.
+pub(crate) fn add_four(format: u32, weights: &[f32], cells: &[u8], scales: &[u32], out: &mut [f32])
+    requires { ⌜ (length (now weights) ≡ 4) × Rows format (length (now out)) 4 (length (now cells)) (length (now scales)) ⌝ }
+    ensures { λ _.
+        ⌜
+        now (out .exit)
+        ≡ turns (length (now (weights .entry)))
+        (λ p. added (blockTerm format (now (weights .entry)) (buffers (now (cells .entry)) (now (scales .entry))) (length (now (out .entry))) p))
+        (now (out .entry))
+        ⌝ }
+{
+    if format == 0 {
+        if nans(cells, 4 * out.len()) == 0 {
+            let c = cells.len() / 4;
+            add_plain(
+                weights[0],
+                weights[1],
+                weights[2],
+                weights[3],
+                cells_of(cells, c, 0, 1),
+                cells_of(cells, c, 1, 1),
+                cells_of(cells, c, 2, 1),
+                cells_of(cells, c, 3, 1),
+                out,
+            );
+            return;
+        }
+    }
+    add_rest(format, weights, cells, scales, out);
+}
+
+// Adds the terms of each row, one row after the other.
+pub(crate) fn add_rest(format: u32, weights: &[f32], cells: &[u8], scales: &[u32], out: &mut [f32])
+    requires { ⌜ Rows format (length (now out)) (length (now weights)) (length (now cells)) (length (now scales)) ⌝ }
+    ensures { λ _.
+        ⌜
+        now (out .exit)
+        ≡ turns (length (now (weights .entry)))
+        (λ p. added (blockTerm format (now (weights .entry)) (buffers (now (cells .entry)) (now (scales .entry))) (length (now (out .entry))) p))
+        (now (out .entry))
+        ⌝ }
+{
+    let c = cell_bytes(format, out.len() as u32);
+    let w = scale_words(format, out.len() as u32);
+    let mut p = 0;
+    while p < weights.len() {
+        let a = p * c;
+        let b = p * w;
+        add_row(format, weights[p], &cells[a..a + c], &scales[b..b + w], out);
+        p += 1;
+    }
+}
+
+fn add_row(format: u32, weight: f32, cells: &[u8], scales: &[u32], out: &mut [f32])
     requires { ⌜ Rows format (length (now out)) 1 (length (now cells)) (length (now scales)) ⌝ }
     ensures { λ _. ⌜ now (out .exit) ≡ added (rowTerm format weight (now (cells .entry)) (now (scales .entry))) (now (out .entry)) ⌝ }
 {

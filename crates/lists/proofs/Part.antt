@@ -3,7 +3,7 @@
 use mathlib.Core.Path.{_≡_, sym, ap, _∙_}
 use mathlib.Core.List.{List, [], _∷_, _++_}
 use Prim.Native.Nat.{ℕ, zero, suc, _+_, _-_, _*_, _≤_, _<_, suc-le-suc}
-use native.Mathlib.Nat.{mul-le-mul-right, suc-mul, zero-mul, zero-add, suc-add, zero-lt-suc, add-comm}
+use native.Mathlib.Nat.{mul-le-mul-right, add-mul, suc-mul, zero-mul, zero-add, suc-add, zero-lt-suc, add-comm}
 use native.Mathlib.Omega.{arith}
 use lib.ListN.{length, take, drop, replicate, length-take, length-drop, length-replicate, replicate-append-replicate}
 use Rattle.lists.specs.Chunks.{part}
@@ -79,6 +79,10 @@ module _ {A : Type 0} where
   -- chunk i + 1 of a list is chunk i of what follows its first chunk
   pub part-next : (k i : ℕ) (l : List A) → part (suc i * k) k l ≡ part (i * k) k (drop k l)
   part-next k i l = rw (suc-mul, add-comm, ← drop-drop)
+
+  -- chunk i of the n chunks from chunk p on is chunk p + i
+  pub part-chunk : (k p n i : ℕ) (l : List A) → i < n → part (i * k) k (part (p * k) (n * k) l) ≡ part ((p + i) * k) k l
+  part-chunk k p n i l h = let b = room k h in rw (part-part, add-mul)
 
   -- lists with n equal chunks begin alike
   pub chunks-take : (k n : ℕ) (l l′ : List A)
