@@ -11,7 +11,7 @@ mul-nans c = search needs
 nans-requires : tie.Need-nans-requires
 nans-requires c κs =
     let start = c .before .before .before .before .before in
-    four-scanned _ (start .args .cells .now) (start .args .scales .now) (start .args .out .now) (start .pre .1) (c .if1 .taken)
+    omega (arith, four-scanned _ (start .args .cells .now) (start .args .scales .now) (start .args .out .now) (start .pre .1) (c .if1 .taken))
 
 shared-slice-read-add-plain : tie.Need-shared-slice-read-add-plain
 shared-slice-read-add-plain c = search needs
