@@ -1,5 +1,5 @@
 -- While none is counted, no word passed is a NaN's.
-use mathlib.Core.Path.{_≡_, _∙_}
+use mathlib.Core.Path.{_≡_, refl, _∙_}
 use mathlib.Core.Bool.{false}
 use mathlib.Core.Logic.{⊎-elim}
 use Prim.Native.Nat.{ℕ, _-_, _%_, _≤_}
@@ -27,7 +27,7 @@ up-to-infinity w h = nanBits-above binary32 w ∙ le-ltb _ _ h
 
 loop-holds : tie.Need-loop-holds Inv-loop μ-loop
 unfolding some turns
-loop-holds c = search needs
+loop-holds c = (omega arith, omega arith, λ z. refl)
 
 mul-a : tie.Need-mul-a Inv-loop μ-loop
 mul-a c = search needs
