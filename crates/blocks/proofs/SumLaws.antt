@@ -1,4 +1,4 @@
--- Some of a block's rows, lent as parts: where they lie, that they are a block of their own, and that their terms are the block's; and four rows of F32.
+-- Some of a block's rows, lent as parts: where they end, and that their terms are the block's; and four rows of F32.
 -- Each holds since the rows lie one after the other.
 use mathlib.Core.Path.{_≡_, _∙_}
 use mathlib.Core.Bool.{false}
@@ -17,19 +17,13 @@ use Rattle.lists.proofs.Turns.{turns-same, turns-add}
 use Rattle.shapes.specs.Shape.{ofFormat, cellBytes, scaleWords}
 use Rattle.rows.specs.Row.{f32At}
 use Rattle.rows.specs.Calls.{buffers}
-use Rattle.rows.proofs.FitLaws.{RowsFit, fits-facts, facts-fit}
+use Rattle.rows.proofs.FitLaws.{RowsFit, fits-facts}
 use Rattle.blocks.specs.Order.{f32Term, rowTerm, added}
 use Rattle.blocks.specs.Block.{blockTerm}
 use Rattle.blocks.specs.Fits.{Rows, IsF32}
 use Rattle.blocks.proofs.FourLaws.{quarter, quarter-f32}
-use Rattle.blocks.proofs.PartLaws.{part-in}
 
--- the k rows from row p on lie in the cells and in the scale words, where a row has r of those and v of these
-pub rows-inside : (p k : ℕ) {format d m cells scales r v : ℕ} → RowsFit format d m cells scales → r ≡ cellBytes format d → v ≡ scaleWords format d → p + k ≤ m
-    → (p * r + k * r ≤ cells) × (p * v + k * v ≤ scales)
-rows-inside p k f e q h = (part-in _ p k e (f .cell-bytes) h, part-in _ p k q (f .scale-words) h)
-
--- and the rows from row p on end where the cells and the scale words end
+-- the rows from row p on end where the cells and the scale words end, where a row has r of those and v of these
 rows-to-end : (b : ℕ) {m p r size : ℕ} → r ≡ b → size ≡ m * b → p ≤ m → p * r + (m - p) * r ≡ size
 rows-to-end b {m} {p} e q h = let w : p + (m - p) ≡ m = omega arith in rw (e, q, ← add-mul, w)
 
@@ -37,16 +31,9 @@ pub rest-inside : {format d m cells scales r v p : ℕ} → RowsFit format d m c
     → (p * r + (m - p) * r ≡ cells) × (p * v + (m - p) * v ≡ scales)
 rest-inside f e q h = (rows-to-end _ e (f .cell-bytes) h, rows-to-end _ q (f .scale-words) h)
 
--- lent as `&l[p * r..e]`, where r is b, they are the rows' part
+-- k rows lent as `&l[p * r..e]`, where r is b, are the rows' part
 pub rows-lent : (b p k : ℕ) (l : List ℕ) {r e : ℕ} → r ≡ b → p * r + k * r ≡ e → part (p * r) (e - p * r) l ≡ part (p * b) (k * b) l
 rows-lent b p k l {r} {e} q w = let d : e - p * r ≡ k * r = omega arith in rw (d, q)
-
--- and are a block of k rows
-pub some-rows : (format d m cells scales k : ℕ) {x y : ℕ} → Rows format d m cells scales → k ≤ m → x ≡ k * cellBytes format d → y ≡ k * scaleWords format d
-    → Rows format d k x y
-some-rows format d m cells scales k h b e q =
-    let f = fits-facts (h .1) in
-    (h .0, facts-fit (record { known = f .known; small = f .small; few = omega (arith, f .few); whole = f .whole; cell-bytes = e; scale-words = q }))
 
 module _ (format : ℕ) (weights : List Float) (cells scales : List ℕ) (d : ℕ) where
   abbrev B : ℕ

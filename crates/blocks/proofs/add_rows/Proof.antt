@@ -11,7 +11,8 @@ use Rattle.rows.specs.Calls.{buffers}
 use Rattle.rows.proofs.FitLaws.{fits-facts}
 use Rattle.blocks.specs.Order.{added}
 use Rattle.blocks.specs.Block.{blockTerm}
-use Rattle.blocks.proofs.SumLaws.{rows-inside, rest-inside, rows-lent, some-rows, rows-after}
+use Rattle.blocks.proofs.PartLaws.{rows-inside, some-rows}
+use Rattle.blocks.proofs.SumLaws.{rest-inside, rows-lent, rows-after}
 use Rattle.blocks.proofs.add_rows.Statement.{statement}
 use Rattle.blocks.proofs.add_rows.Tie as tie
 
