@@ -2,10 +2,11 @@
 -- Each holds at each format, by the lengths of tables and of joined lists.
 use mathlib.Core.Path.{_≡_, refl, sym, ap, _∙_}
 use mathlib.Core.List.{List, [], _++_, append-nil}
-use Prim.Native.Nat.{ℕ, zero, suc, _*_, _/_, _%_, _≤_}
+use Prim.Native.Nat.{ℕ, zero, suc, _-_, _*_, _/_, _%_, _≤_}
 use native.Mathlib.Omega.{arith}
 use lib.Ieee.{Float}
-use lib.ListN.{length, getD, drop, drop-of-length-le}
+use lib.ListN.{length, getD, take, drop, drop-of-length-le}
+use lib.Seq.{take-at}
 use borrow.Author.Tests.{ne-eqb}
 use Rattle.lists.specs.Bytes.{little}
 use Rattle.lists.specs.Chunks.{part, joined}
@@ -80,3 +81,7 @@ module _ (numbers bytes : List ℕ) (scale : Float) (n : length numbers ≡ 32) 
 
 pub empty : (l : List ℕ) → length l ≡ 0 → l ≡ []
 empty l e = drop-of-length-le l {i = 0} (omega arith)
+
+-- the first of an array's words, lent as `&words[0..n]`, are the run's n
+pub first-lent : (run y r : List ℕ) → y ≡ run → take (length run - 0) (y ++ r) ≡ run
+first-lent run y r e = let z : length run - 0 ≡ length run = omega arith in rw (e, z) (take-at run r _ refl)

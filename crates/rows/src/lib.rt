@@ -15,7 +15,7 @@ use shapes::of_format;
 use shapes::scale_words;
 ghost use mathlib.Core.Path.{_≡_};
 ghost use mathlib.Core.List.{[], _∷_};
-ghost use Prim.Native.Nat.{_+_, _*_};
+ghost use Prim.Native.Nat.{_+_, _*_, _≤_};
 ghost use lib.ListN.{length};
 ghost use Rattle.replies.specs.Outcome.{answered};
 ghost use Rattle.numbers.specs.Word.{word};
@@ -91,14 +91,42 @@ pub fn rows_fit(format: u32, d: usize, m: usize, cells: usize, scales: usize) ->
     scales == m * scale_words(format, d as u32)
 }
 
+// The words go through an array, which overlaps with nothing, so that the back end makes one copy of memory of it.
 fn put_f32(run: &[u32], cells: &mut [u8])
-    requires { ⌜ length (now cells) ≡ length (now run) * 4 ⌝ }
+    requires { ⌜ (length (now run) ≤ 256) × (length (now cells) ≡ length (now run) * 4) ⌝ }
     ensures { λ _. ⌜ now (cells .exit) ≡ f32Cells (now (run .entry)) ⌝ }
 {
+    let n = run.len();
+    let mut words = no_words();
+    copy_words(run, &mut words[0..n]);
+    put_words(&words[0..n], cells);
+}
+
+fn no_words() -> [u32; 256]
+    ensures { λ r. ⌜ 256 ≡ length r ⌝ }
+{
+    [0; 256]
+}
+
+fn copy_words(run: &[u32], words: &mut [u32])
+    requires { ⌜ length (now words) ≡ length (now run) ⌝ }
+    ensures { λ _. ⌜ now (words .exit) ≡ now (run .entry) ⌝ }
+{
+    let mut i = 0;
+    while i < run.len() {
+        words[i] = run[i];
+        i += 1;
+    }
+}
+
+fn put_words(words: &[u32], cells: &mut [u8])
+    requires { ⌜ length (now cells) ≡ length (now words) * 4 ⌝ }
+    ensures { λ _. ⌜ now (cells .exit) ≡ f32Cells (now (words .entry)) ⌝ }
+{
     let mut d = 0;
-    while d < run.len() {
+    while d < words.len() {
         let a = d * 4;
-        put_word(run[d], &mut cells[a..a + 4]);
+        put_word(words[d], &mut cells[a..a + 4]);
         d += 1;
     }
 }

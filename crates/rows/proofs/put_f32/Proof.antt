@@ -1,88 +1,58 @@
--- The cells passed hold the numbers passed, and what is left is as it was.
-use mathlib.Core.Path.{refl}
-use Prim.Native.Nat.{_-_}
+-- The array begins with the run's words, and these are written.
+use mathlib.Core.Path.{ap, _∙_}
 use native.Mathlib.Omega.{arith}
-use lib.ListN.{length, getD, length-take, length-drop}
+use lib.ListN.{length, length-append}
 use borrow.Author.Needs.{needs}
-use Rattle.lists.specs.Chunks.{each}
-use Rattle.lists.proofs.Loop.{Passed, chunk-turn, over, over-done}
-use Rattle.lists.specs.Bytes.{little}
 use Rattle.rows.specs.Row.{f32Cells}
-use Rattle.lists.proofs.Bytes.{little-length}
+use Rattle.rows.proofs.RowLaws.{first-lent}
 use Rattle.rows.proofs.put_f32.Statement.{statement}
 use Rattle.rows.proofs.put_f32.Tie as tie
 
-abbrev Inv-loop : tie.InvT-loop
-Inv-loop run cells₀ d₀ cells d = Passed 4 (length run) (λ i x. little 4 (getD run i 0)) cells₀ d cells
+no-words-requires : tie.Need-no-words-requires
+no-words-requires c κs = search needs
 
-abbrev μ-loop : tie.MeasureT-loop
-μ-loop run cells₀ d₀ cells d = length run - d
+sub-copy-words : tie.Need-sub-copy-words
+sub-copy-words c = search needs
 
-loop-holds : tie.Need-loop-holds Inv-loop μ-loop
-unfolding each
-loop-holds c = search needs
+part-words-start : tie.Need-part-words-start
+part-words-start c = search needs
 
-mul-a : tie.Need-mul-a Inv-loop μ-loop
-mul-a c = search needs
+part-words-end : tie.Need-part-words-end
+part-words-end c = search needs
 
-mul-put-word : tie.Need-mul-put-word Inv-loop μ-loop
-mul-put-word c = search needs
+copy-words-requires : tie.Need-copy-words-requires
+copy-words-requires c κs = search needs
 
-shared-slice-read-put-word : tie.Need-shared-slice-read-put-word Inv-loop μ-loop
-shared-slice-read-put-word c = search needs
+sub-put-words : tie.Need-sub-put-words
+sub-put-words c = search needs
 
-add-put-word : tie.Need-add-put-word Inv-loop μ-loop
-add-put-word c = search needs
+part-put-words-start : tie.Need-part-put-words-start
+part-put-words-start c = search needs
 
-sub-put-word : tie.Need-sub-put-word Inv-loop μ-loop
-sub-put-word c = search needs
+part-put-words-end : tie.Need-part-put-words-end
+part-put-words-end c = let e = ap length (c .before .before .copy-words .ensures) in simp length-append (omega arith)
 
-part-put-word-start : tie.Need-part-put-word-start Inv-loop μ-loop
-part-put-word-start c = search needs
+put-words-requires : tie.Need-put-words-requires
+put-words-requires c κs = search needs
 
-part-put-word-end : tie.Need-part-put-word-end Inv-loop μ-loop
-part-put-word-end c = search needs
-
-put-word-requires : tie.Need-put-word-requires Inv-loop μ-loop
-put-word-requires c κs = simp (length-take, length-drop) (omega arith)
-
-add-d : tie.Need-add-d Inv-loop μ-loop
-add-d c = search needs
-
-loop-less : tie.Need-loop-less Inv-loop μ-loop
-loop-less c = search needs
-
-loop-again : tie.Need-loop-again Inv-loop μ-loop
-loop-again c =
-    let start = c .before .before .before .before .before .before .before .before .before in
-    chunk-turn (over (λ i w. little-length 4 _) (start .pre)) (c .before .before .before .before .before .before .loop .inv) (omega arith) refl (c .before .before .put-word .ensures)
-
-same-length : tie.Need-same-length Inv-loop μ-loop
+same-length : tie.Need-same-length
 same-length c = search needs
 
-returns : tie.Need-returns Inv-loop μ-loop
-unfolding f32Cells
-returns c =
-    let start = c .before .before .before .before in
-    over-done (over (λ i w. little-length 4 _) (start .pre)) (c .before .loop .inv) (omega arith)
+returns : tie.Need-returns
+returns c = c .before .before .put-words .ensures ∙ ap f32Cells (first-lent _ _ _ (c .before .before .before .before .before .before .before .copy-words .ensures))
 
 pub put-f32-spec : {M : Type 1} → statement M
 put-f32-spec =
     tie.close
     (tie.spec
-    Inv-loop
-    μ-loop
-    loop-holds
-    mul-a
-    mul-put-word
-    shared-slice-read-put-word
-    add-put-word
-    sub-put-word
-    part-put-word-start
-    part-put-word-end
-    put-word-requires
-    add-d
-    loop-less
-    loop-again
+    no-words-requires
+    sub-copy-words
+    part-words-start
+    part-words-end
+    copy-words-requires
+    sub-put-words
+    part-put-words-start
+    part-put-words-end
+    put-words-requires
     same-length
     returns)

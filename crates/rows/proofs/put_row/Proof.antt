@@ -38,7 +38,8 @@ unfolding putRowOf
 done c p q = test-done 7 _ _ (passed (c .before .rows-fit .ensures) (c .if1 .left)) (rw (p, q))
 
 put-f32-requires : tie.Need-put-f32-requires
-put-f32-requires c κs = f32-fits (rw (c .before .match .keys1) at (fits (c .before .before))) .0
+put-f32-requires c κs =
+    let f = fits (c .before .before) in (f .small, f32-fits (rw (c .before .match .keys1) at f) .0)
 
 put-bf16-requires : tie.Need-put-bf16-requires
 put-bf16-requires c κs = bf16-fits (rw (c .before .match .keys2) at (fits (c .before .before))) .0
