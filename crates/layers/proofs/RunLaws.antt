@@ -10,11 +10,15 @@ use lib.ListN.{length}
 use Rattle.lists.specs.Chunks.{part}
 use Rattle.lists.proofs.Part.{room, room-in, part-length}
 use Rattle.shapes.specs.declared.Shape.{Shape}
-use Rattle.shapes.specs.Shape.{headSize, bytesOf, wordsOf, width, limits}
+use Rattle.shapes.specs.Shape.{headSize, cellBytes, scaleWords, bytesOf, wordsOf, width, limits}
 use Rattle.shapes.proofs.ShapeLaws.{limits-facts}
-use Rattle.layers.specs.Calls.{headNumbers, sideOf, cellRow, scaleRow}
-use Rattle.layers.proofs.LayerLaws.{SideRows, LayerRows}
+use Rattle.rows.specs.Row.{rowCells, rowScales}
 use Rattle.rows.proofs.RowLaws.{row-cells-length, row-scales-length}
+use Rattle.rows.proofs.FitLaws.{RowFits, shape-fits}
+use Rattle.layers.specs.Calls.{headNumbers, sideOf, cellRow, scaleRow}
+use Rattle.layers.specs.Fits.{RowsFit}
+use Rattle.layers.proofs.LayerLaws.{SideRows, LayerRows}
+use Rattle.layers.proofs.ChunkLaws.{Rows, rows-of}
 
 -- head h of position i lies within n positions
 pub numbers-in : (s : Shape) {i n h : ℕ} → i < n → h < s .heads → i * width s + h * headSize s + headSize s ≤ n * width s
@@ -54,3 +58,17 @@ module _ (s : Shape) (n : ℕ) (inside : limits s ≡ true) where
 
     pub scale-layer : LayerRows (wordsOf s) s n (λ side. scaleRow s (sideOf keys values side))
     scale-layer side w = scale-rows (sideOf keys values side) (side-size keys values k v side)
+
+-- what a loop over the rows of head h knows of each buffer, in the shape's format
+module _ (s : Shape) {format h n : ℕ} (numbers cells scales : List ℕ) (e : format ≡ s .format) (f : RowsFit s h n (length numbers) (length cells) (length scales)) where
+  pub head-cells : {r : ℕ} → r ≡ cellBytes format (headSize s)
+      → Rows (cellBytes format (headSize s)) n (λ i. rowCells format (headNumbers s numbers h i)) cells r
+  head-cells q = rw e (rows-of _ _ _ _ (rw e at q) (cell-rows s n (f .in-limits) numbers (f .numbers-size) h (f .head)) (f .cell-size))
+
+  pub head-scales : {r : ℕ} → r ≡ scaleWords format (headSize s)
+      → Rows (scaleWords format (headSize s)) n (λ i. rowScales format (headNumbers s numbers h i)) scales r
+  head-scales q = rw e (rows-of _ _ _ _ (rw e at q) (scale-rows s n (f .in-limits) numbers (f .numbers-size) h (f .head)) (f .scale-size))
+
+  -- and of a row that is lent
+  pub head-fits : {d c w : ℕ} → d ≡ headSize s → c ≡ cellBytes format (headSize s) → w ≡ scaleWords format (headSize s) → RowFits format d c w
+  head-fits p q o = rw e (shape-fits s (f .in-limits) p (rw e at q) (rw e at o))

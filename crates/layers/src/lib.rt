@@ -12,9 +12,10 @@ ghost use lib.ListN.{length, replicate};
 ghost use Rattle.lists.specs.Chunks.{joined};
 ghost use Rattle.replies.specs.Outcome.{answered};
 ghost use Rattle.shapes.specs.Shape.{bytesOf, wordsOf, width, limits};
+ghost use Rattle.rows.specs.Row.{rowCells, rowScales};
 ghost use Rattle.rows.specs.Calls.{buffers};
 ghost use Rattle.layers.specs.Layer.{blockSize, sideSize, layerSize, put, putSide, putLayer, zeros};
-ghost use Rattle.layers.specs.Calls.{sideOf, cellRow, scaleRow, layerFits, hasPlace, placeOf, putLayerOf, clearLayerOf};
+ghost use Rattle.layers.specs.Calls.{headNumbers, sideOf, cellRow, scaleRow, layerFits, hasPlace, placeOf, putLayerOf, clearLayerOf};
 ghost use Rattle.layers.specs.Fits.{Fits, RowsFit};
 
 // Keys and values into positions `p` to `p + n - 1` of a layer.
@@ -274,15 +275,37 @@ fn clear_block(shape: Shape, p: usize, n: usize, cells: &mut [u8], scales: &mut 
     zero_words(&mut scales[b..b + n * w]);
 }
 
-// Head `h` of `n` positions, row after row.
+// Head `h` of `n` positions. F32 and BF16 are named, so that the back end makes a loop of each in which no format is tested.
 fn put_rows(shape: Shape, h: usize, n: usize, numbers: &[u32], cells: &mut [u8], scales: &mut [u32])
     requires { ⌜ RowsFit shape h n (length (now numbers)) (length (now cells)) (length (now scales)) ⌝ }
     ensures cells { λ _. ⌜ now (cells .exit) ≡ joined n (cellRow shape (now (numbers .entry)) h) ⌝ }
     ensures scales { λ _. ⌜ now (scales .exit) ≡ joined n (scaleRow shape (now (numbers .entry)) h) ⌝ }
 {
+    let format = shape.format;
+    match format {
+        0 => put_rows_in(0, shape, h, n, numbers, cells, scales),
+        1 => put_rows_in(1, shape, h, n, numbers, cells, scales),
+        _ => put_rows_in(format, shape, h, n, numbers, cells, scales),
+    }
+}
+
+// Row after row, in the shape's format.
+fn put_rows_in(
+    format: u32,
+    shape: Shape,
+    h: usize,
+    n: usize,
+    numbers: &[u32],
+    cells: &mut [u8],
+    scales: &mut [u32],
+)
+    requires { ⌜ (format ≡ shape .format) × RowsFit shape h n (length (now numbers)) (length (now cells)) (length (now scales)) ⌝ }
+    ensures cells { λ _. ⌜ now (cells .exit) ≡ joined n (λ i. rowCells format (headNumbers shape (now (numbers .entry)) h i)) ⌝ }
+    ensures scales { λ _. ⌜ now (scales .exit) ≡ joined n (λ i. rowScales format (headNumbers shape (now (numbers .entry)) h i)) ⌝ }
+{
     let d = shape.head_size as usize;
-    let c = cell_bytes(shape.format, shape.head_size);
-    let w = scale_words(shape.format, shape.head_size);
+    let c = cell_bytes(format, shape.head_size);
+    let w = scale_words(format, shape.head_size);
     let width = shape.heads as usize * d;
     let mut i = 0;
     while i < n {
@@ -290,7 +313,7 @@ fn put_rows(shape: Shape, h: usize, n: usize, numbers: &[u32], cells: &mut [u8],
         let a = i * c;
         let b = i * w;
         put_row(
-            shape.format,
+            format,
             &numbers[from..from + d],
             &mut cells[a..a + c],
             &mut scales[b..b + w],

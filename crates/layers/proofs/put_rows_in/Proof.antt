@@ -1,27 +1,30 @@
 -- The positions passed have their rows, and each turn lends one row of each buffer.
 use mathlib.Core.Path.{_≡_, refl, _∙_}
-use Prim.Native.Nat.{_+_, _-_, _*_, _≤_}
+use mathlib.Core.List.{List}
+use Prim.Native.Nat.{ℕ, _+_, _-_, _*_, _≤_}
 use native.Mathlib.Omega.{arith}
 use borrow.Author.Needs.{needs}
 use lib.ListN.{length}
 use Rattle.lists.specs.Chunks.{part, each}
 use Rattle.lists.proofs.Part.{lent-count}
 use Rattle.lists.proofs.Loop.{Passed, chunk-in, chunk-turn, over-done}
-use Rattle.shapes.specs.Shape.{headSize, bytesOf, wordsOf, width}
+use Rattle.shapes.specs.Shape.{headSize, cellBytes, scaleWords, width}
 use Rattle.shapes.proofs.ShapeLaws.{width-in}
-use Rattle.rows.proofs.FitLaws.{shape-fits, put-left}
-use Rattle.layers.specs.Calls.{headNumbers, cellRow, scaleRow}
-use Rattle.layers.proofs.ChunkLaws.{Rows, rows-of}
-use Rattle.layers.proofs.RunLaws.{numbers-in, run-lent, cell-rows, scale-rows}
-use Rattle.layers.proofs.put_rows.Statement.{statement}
-use Rattle.layers.proofs.put_rows.Tie as tie
+use Rattle.rows.specs.Row.{rowCells, rowScales}
+use Rattle.rows.proofs.FitLaws.{put-left}
+use Rattle.layers.specs.Calls.{headNumbers}
+use Rattle.layers.proofs.ChunkLaws.{Rows}
+use Rattle.layers.proofs.RunLaws.{numbers-in, run-lent, head-cells, head-scales, head-fits}
+use Rattle.layers.proofs.put_rows_in.Statement.{statement}
+use Rattle.layers.proofs.put_rows_in.Tie as tie
 
 abbrev Inv-loop : tie.InvT-loop
-Inv-loop shape h n numbers cells₀ scales₀ d c w width i₀ cells scales i =
-    Passed c n (λ j x. cellRow shape numbers h j) cells₀ i cells × Passed w n (λ j x. scaleRow shape numbers h j) scales₀ i scales
+Inv-loop format h n numbers cells₀ scales₀ d c w width i₀ cells scales i =
+    let run : ℕ → List ℕ = λ j. part (j * width + h * d) d numbers in
+    Passed c n (λ j x. rowCells format (run j)) cells₀ i cells × Passed w n (λ j x. rowScales format (run j)) scales₀ i scales
 
 abbrev μ-loop : tie.MeasureT-loop
-μ-loop shape h n numbers cells₀ scales₀ d c w width i₀ cells scales i = n - i
+μ-loop format h n numbers cells₀ scales₀ d c w width i₀ cells scales i = n - i
 
 -- the function's entry, from the loop
 abbrev start : tie.At-loop Inv-loop μ-loop → tie.Start Inv-loop μ-loop
@@ -30,17 +33,19 @@ start c = c .before .before .before .before .before .before .before .before
 -- what the loop over the positions knows of each buffer
 cells-rows : (c : tie.At-loop Inv-loop μ-loop)
     → let a = start c .args in
-    Rows (bytesOf (a .shape)) (a .n) (cellRow (a .shape) (a .numbers .now) (a .h)) (a .cells .now) (c .before .before .before .cell-bytes .result)
+    Rows (cellBytes (a .format) (headSize (a .shape))) (a .n) (λ j. rowCells (a .format) (headNumbers (a .shape) (a .numbers .now) (a .h) j)) (a .cells .now)
+    (c .before .before .before .cell-bytes .result)
 cells-rows c =
-    let a = start c .pre in
-    rows-of _ _ _ _ (c .before .before .before .cell-bytes .ensures) (cell-rows _ _ (a .in-limits) _ (a .numbers-size) _ (a .head)) (a .cell-size)
+    let a = start c in
+    head-cells (a .args .shape) (a .args .numbers .now) (a .args .cells .now) (a .args .scales .now) (a .pre .0) (a .pre .1) (c .before .before .before .cell-bytes .ensures)
 
 words-rows : (c : tie.At-loop Inv-loop μ-loop)
     → let a = start c .args in
-    Rows (wordsOf (a .shape)) (a .n) (scaleRow (a .shape) (a .numbers .now) (a .h)) (a .scales .now) (c .before .before .scale-words .result)
+    Rows (scaleWords (a .format) (headSize (a .shape))) (a .n) (λ j. rowScales (a .format) (headNumbers (a .shape) (a .numbers .now) (a .h) j)) (a .scales .now)
+    (c .before .before .scale-words .result)
 words-rows c =
-    let a = start c .pre in
-    rows-of _ _ _ _ (c .before .before .scale-words .ensures) (scale-rows _ _ (a .in-limits) _ (a .numbers-size) _ (a .head)) (a .scale-size)
+    let a = start c in
+    head-scales (a .args .shape) (a .args .numbers .now) (a .args .cells .now) (a .args .scales .now) (a .pre .0) (a .pre .1) (c .before .before .scale-words .ensures)
 
 -- the head's numbers and the row lie in their slices
 run-in : (c : tie.In-loop Inv-loop μ-loop)
@@ -48,7 +53,7 @@ run-in : (c : tie.In-loop Inv-loop μ-loop)
     c .before .loop .i * width (a .shape) + a .h * headSize (a .shape) + headSize (a .shape) ≤ length (a .numbers .now)
 run-in c =
     let a = start (c .before) in
-    rw (a .pre .numbers-size) (numbers-in (a .args .shape) (c .loop-test .taken) (a .pre .head))
+    rw (a .pre .1 .numbers-size) (numbers-in (a .args .shape) (c .loop-test .taken) (a .pre .1 .head))
 
 cells-in : (c : tie.In-loop Inv-loop μ-loop)
     → let r = c .before .before .before .before .cell-bytes .result in c .before .loop .i * r + r ≤ length (start (c .before) .args .cells .now)
@@ -78,7 +83,7 @@ cast-width : tie.Need-cast-width Inv-loop μ-loop
 cast-width c = search needs
 
 mul-width : tie.Need-mul-width Inv-loop μ-loop
-mul-width c = let a = c .before .before .before .before .before .before .before in omega (arith, width-in (a .args .shape) (a .pre .in-limits))
+mul-width c = let a = c .before .before .before .before .before .before .before in omega (arith, width-in (a .args .shape) (a .pre .1 .in-limits))
 
 loop-holds : tie.Need-loop-holds Inv-loop μ-loop
 unfolding each
@@ -155,7 +160,7 @@ loop-again c =
     let k = c .before .before .before .before .before in
     let l = k .before .before .before .before in
     let a = start l in
-    let fits = shape-fits (a .args .shape) (a .pre .in-limits)
+    let fits = head-fits (a .args .shape) (a .args .numbers .now) (a .args .cells .now) (a .args .scales .now) (a .pre .0) (a .pre .1)
     (k .before .before .put-row-arg .given .2 ∙ lent-count _ refl refl)
     (k .before .put-row-arg2 .given .2 ∙ lent-count _ refl (l .before .before .before .cell-bytes .ensures))
     (k .put-row-arg3 .given .2 ∙ lent-count _ refl (l .before .before .scale-words .ensures)) in
@@ -175,8 +180,8 @@ returns c =
     let l = c .before in
     (over-done (cells-rows l) (l .loop .inv .0) (omega arith), over-done (words-rows l) (l .loop .inv .1) (omega arith))
 
-pub put-rows-spec : {M : Type 1} → statement M
-put-rows-spec =
+pub put-rows-in-spec : {M : Type 1} → statement M
+put-rows-in-spec =
     tie.close
     (tie.spec
     Inv-loop
