@@ -1,6 +1,7 @@
 pub mod BlockLaws
 pub mod FourLaws
 pub mod GroupLaws
+pub mod NanLaws
 pub mod OrderLaws
 pub mod PartLaws
 pub mod RowLaws

@@ -15,7 +15,7 @@ use rows::rows_fit;
 use scores::score_row;
 use shapes::cell_bytes;
 use shapes::scale_words;
-use sums::add_four;
+use sums::add_f32_rows;
 use sums::add_rest;
 ghost use mathlib.Core.Path.{_≡_};
 ghost use mathlib.Core.List.{_++_};
@@ -190,7 +190,7 @@ fn zero_numbers(out: &mut [f32])
     }
 }
 
-// Adds the terms of each position to what is there: four rows at a time, and what is left row by row.
+// Adds the terms of each position to what is there.
 fn add_rows(format: u32, weights: &[f32], cells: &[u8], scales: &[u32], out: &mut [f32])
     requires { ⌜ Rows format (length (now out)) (length (now weights)) (length (now cells)) (length (now scales)) ⌝ }
     ensures { λ _.
@@ -201,22 +201,9 @@ fn add_rows(format: u32, weights: &[f32], cells: &[u8], scales: &[u32], out: &mu
         (now (out .entry))
         ⌝ }
 {
-    let c = cell_bytes(format, out.len() as u32);
-    let w = scale_words(format, out.len() as u32);
-    let mut p = 0;
-    while 4 <= weights.len() - p {
-        let a = p * c;
-        let b = p * w;
-        add_four(
-            format,
-            &weights[p..p + 4],
-            &cells[a..a + 4 * c],
-            &scales[b..b + 4 * w],
-            out,
-        );
-        p += 4;
+    if format == 0 {
+        add_f32_rows(weights, cells, scales, out);
+        return;
     }
-    let a = p * c;
-    let b = p * w;
-    add_rest(format, &weights[p..], &cells[a..], &scales[b..], out);
+    add_rest(format, weights, cells, scales, out);
 }

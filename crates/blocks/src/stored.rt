@@ -3,12 +3,12 @@ use numbers::codes::less_8;
 use numbers::words::word_to_f32;
 use rows::word_of_bytes;
 ghost use mathlib.Core.Path.{_≡_};
-ghost use mathlib.Core.Bool.{false};
+ghost use mathlib.Core.Bool.{false, cond};
 ghost use Prim.Native.Nat.{_+_, _*_, _/_, _%_, _^_, _≤_};
 ghost use lib.ListN.{length};
 ghost use lib.Ieee.{binary32, nanBits};
 ghost use Rattle.lists.specs.Bytes.{fromLittle};
-ghost use Rattle.lists.specs.Chunks.{some};
+ghost use Rattle.lists.specs.Chunks.{turns};
 ghost use Rattle.numbers.specs.Word.{float};
 ghost use Rattle.numbers.specs.Code.{less8};
 ghost use Rattle.rows.specs.Row.{f32At};
@@ -31,18 +31,29 @@ pub(crate) fn plain_at(cells: &[u8], d: usize) -> f32
     f32::from_bits(word_of(&cells[a..a + 4]))
 }
 
-// How many of the first `n` numbers of F32 rows are NaN: counted, since the back end counts four numbers at once.
+// 1 where number `d` of F32 rows is a NaN, else 0: counted, since the back end counts four numbers at once.
+pub(crate) fn nan_at(cells: &[u8], d: usize) -> u32
+    requires { ⌜ d * 4 + 4 ≤ length (now cells) ⌝ }
+    ensures { λ r. ⌜ r ≡ cond (nanBits binary32 (f32At (now (cells .entry)) d)) 1 0 ⌝ }
+{
+    let a = d * 4;
+    let word = word_of(&cells[a..a + 4]);
+    if 0x7F80_0000 < word % 0x8000_0000 {
+        1
+    } else {
+        0
+    }
+}
+
+// How many of the first `n` numbers of F32 rows are NaN.
 pub(crate) fn nans(cells: &[u8], n: usize) -> u32
     requires { ⌜ (n * 4 ≤ length (now cells)) × (n ≤ 1024) ⌝ }
-    ensures { λ r. ⌜ (r ≡ 0 → some n (λ d. nanBits binary32 (f32At (now (cells .entry)) d)) ≡ false) ⌝ }
+    ensures { λ r. ⌜ r ≡ turns n (λ d nans. nans + cond (nanBits binary32 (f32At (now (cells .entry)) d)) 1 0) 0 ⌝ }
 {
     let mut count = 0;
     let mut d = 0;
     while d < n {
-        let a = d * 4;
-        if 0x7F80_0000 < word_of(&cells[a..a + 4]) % 0x8000_0000 {
-            count += 1;
-        }
+        count += nan_at(cells, d);
         d += 1;
     }
     count

@@ -1,6 +1,7 @@
 // Weighted rows added to a head's sums, in each format that has them.
 use crate::fours::cells_of;
 use crate::stored::code_from;
+use crate::stored::nan_at;
 use crate::stored::nans;
 use crate::stored::number_at;
 use crate::stored::plain_at;
@@ -8,7 +9,7 @@ use numbers::words::word_to_f32;
 use shapes::cell_bytes;
 use shapes::scale_words;
 ghost use mathlib.Core.Path.{_≡_};
-ghost use mathlib.Core.Bool.{false};
+ghost use mathlib.Core.Bool.{false, cond};
 ghost use Prim.Native.Nat.{_+_, _*_, _≤_};
 ghost use lib.ListN.{length};
 ghost use lib.Ieee.{binary32, add, mul, nanBits};
@@ -19,35 +20,76 @@ ghost use Rattle.blocks.specs.Order.{groupCode, f32Term, int4Term, rowTe
 ghost use Rattle.blocks.specs.Block.{blockTerm};
 ghost use Rattle.blocks.specs.Fits.{Rows, IsF32, IsInt4};
 
-// Adds the terms of four rows that lie one after the other, at once where they are F32 and a scan finds no NaN.
-pub(crate) fn add_four(format: u32, weights: &[f32], cells: &[u8], scales: &[u32], out: &mut [f32])
-    requires { ⌜ (length (now weights) ≡ 4) × Rows format (length (now out)) 4 (length (now cells)) (length (now scales)) ⌝ }
+// Adds the terms of F32 rows, four at a time while four more lie behind them, and what is left row by row.
+pub(crate) fn add_f32_rows(weights: &[f32], cells: &[u8], scales: &[u32], out: &mut [f32])
+    requires { ⌜ Rows 0 (length (now out)) (length (now weights)) (length (now cells)) (length (now scales)) ⌝ }
     ensures { λ _.
         ⌜
         now (out .exit)
         ≡ turns (length (now (weights .entry)))
-        (λ p. added (blockTerm format (now (weights .entry)) (buffers (now (cells .entry)) (now (scales .entry))) (length (now (out .entry))) p))
+        (λ p. added (blockTerm 0 (now (weights .entry)) (buffers (now (cells .entry)) (now (scales .entry))) (length (now (out .entry))) p))
         (now (out .entry))
         ⌝ }
 {
-    if format == 0 {
-        if nans(cells, 4 * out.len()) == 0 {
-            let c = cells.len() / 4;
-            add_plain(
-                weights[0],
-                weights[1],
-                weights[2],
-                weights[3],
-                cells_of(cells, c, 0, 1),
-                cells_of(cells, c, 1, 1),
-                cells_of(cells, c, 2, 1),
-                cells_of(cells, c, 3, 1),
-                out,
-            );
-            return;
-        }
+    let c = out.len() * 4;
+    let mut p = 0;
+    // The first four rows go the plain way: nobody has looked for a NaN in them.
+    let mut found = 1;
+    while 8 <= weights.len() - p {
+        found = add_four(
+            found,
+            &weights[p..p + 4],
+            cells_of(cells, c, p, 4),
+            cells_of(cells, c, p + 4, 4),
+            scales,
+            out,
+        );
+        p += 4;
     }
-    add_rest(format, weights, cells, scales, out);
+    let n = weights.len() - p;
+    add_rest(0, &weights[p..], cells_of(cells, c, p, n), scales, out);
+}
+
+// Adds the terms of four rows, at once where no NaN was found in them, and answers how many it finds in the next four.
+fn add_four(
+    found: u32,
+    weights: &[f32],
+    cells: &[u8],
+    next: &[u8],
+    scales: &[u32],
+    out: &mut [f32],
+) -> u32
+    requires { ⌜ (length (now weights) ≡ 4) × Rows 0 (length (now out)) 4 (length (now cells)) (length (now scales)) × (length (now next) ≡ length (now cells)) ⌝ }
+    requires { ⌜ (found ≡ 0 → some (4 * length (now out)) (λ d. nanBits binary32 (f32At (now cells) d)) ≡ false) ⌝ }
+    ensures sums { λ _.
+        ⌜
+        now (out .exit)
+        ≡ turns (length (now (weights .entry)))
+        (λ p. added (blockTerm 0 (now (weights .entry)) (buffers (now (cells .entry)) (now (scales .entry))) (length (now (out .entry))) p))
+        (now (out .entry))
+        ⌝ }
+    ensures scanned { λ r. ⌜ (r ≡ 0 → some (4 * length (now (out .entry))) (λ d. nanBits binary32 (f32At (now (next .entry)) d)) ≡ false) ⌝ }
+{
+    if found == 0 {
+        let c = cells.len() / 4;
+        return add_plain(
+            weights[0],
+            weights[1],
+            weights[2],
+            weights[3],
+            cells_of(cells, c, 0, 1),
+            cells_of(cells, c, 1, 1),
+            cells_of(cells, c, 2, 1),
+            cells_of(cells, c, 3, 1),
+            cells_of(next, c, 0, 1),
+            cells_of(next, c, 1, 1),
+            cells_of(next, c, 2, 1),
+            cells_of(next, c, 3, 1),
+            out,
+        );
+    }
+    add_rest(0, weights, cells, scales, out);
+    nans(next, 4 * out.len())
 }
 
 // Adds the terms of each row, one row after the other.
@@ -94,7 +136,7 @@ fn add_f32(weight: f32, cells: &[u8], out: &mut [f32])
     }
 }
 
-// Four F32 rows without a NaN: each sum takes their terms in order.
+// Four F32 rows without a NaN: each sum takes their terms in order. Meanwhile the NaNs of the next four are counted, so that no work waits for memory.
 fn add_plain(
     w0: f32,
     w1: f32,
@@ -104,13 +146,24 @@ fn add_plain(
     r1: &[u8],
     r2: &[u8],
     r3: &[u8],
+    n0: &[u8],
+    n1: &[u8],
+    n2: &[u8],
+    n3: &[u8],
     out: &mut [f32],
-)
+) -> u32
     requires { ⌜ IsF32 (length (now out)) (length (now r0)) × (some (length (now out)) (λ d. nanBits binary32 (f32At (now r0) d)) ≡ false) ⌝ }
     requires { ⌜ IsF32 (length (now out)) (length (now r1)) × (some (length (now out)) (λ d. nanBits binary32 (f32At (now r1) d)) ≡ false) ⌝ }
     requires { ⌜ IsF32 (length (now out)) (length (now r2)) × (some (length (now out)) (λ d. nanBits binary32 (f32At (now r2) d)) ≡ false) ⌝ }
     requires { ⌜ IsF32 (length (now out)) (length (now r3)) × (some (length (now out)) (λ d. nanBits binary32 (f32At (now r3) d)) ≡ false) ⌝ }
-    ensures { λ _.
+    requires { ⌜
+        IsF32 (length (now out)) (length (now n0))
+        × IsF32 (length (now out)) (length (now n1))
+        × IsF32 (length (now out)) (length (now n2))
+        × IsF32 (length (now out)) (length (now n3))
+        × (length (now out) ≤ 256)
+        ⌝ }
+    ensures sums { λ _.
         ⌜
         now (out .exit)
         ≡ added (f32Term w3 (now (r3 .entry)))
@@ -118,23 +171,57 @@ fn add_plain(
         (added (f32Term w1 (now (r1 .entry)))
         (added (f32Term w0 (now (r0 .entry))) (now (out .entry)))))
         ⌝ }
+    ensures counted { λ r.
+        ⌜
+        r
+        ≡ turns (length (now (out .entry)))
+        (λ d count.
+        count
+        + (cond (nanBits binary32 (f32At (now (n0 .entry)) d)) 1 0
+        + cond (nanBits binary32 (f32At (now (n1 .entry)) d)) 1 0
+        + cond (nanBits binary32 (f32At (now (n2 .entry)) d)) 1 0
+        + cond (nanBits binary32 (f32At (now (n3 .entry)) d)) 1 0))
+        0
+        ⌝ }
 {
+    let mut nans = 0;
     let mut d = 0;
     while d < out.len() {
-        let x = with_term(out[d], w0, r0, d);
-        let y = with_term(x, w1, r1, d);
-        let z = with_term(y, w2, r2, d);
-        out[d] = with_term(z, w3, r3, d);
+        let sum = out[d];
+        let t0 = with_term(Tally { sum, nans }, w0, r0, n0, d);
+        let t1 = with_term(t0, w1, r1, n1, d);
+        let t2 = with_term(t1, w2, r2, n2, d);
+        let t3 = with_term(t2, w3, r3, n3, d);
+        out[d] = t3.sum;
+        nans = t3.nans;
         d += 1;
     }
+    nans
 }
 
-// A sum and one row's term.
-fn with_term(sum: f32, weight: f32, cells: &[u8], d: usize) -> f32
-    requires { ⌜ (d * 4 + 4 ≤ length (now cells)) × (nanBits binary32 (f32At (now cells) d) ≡ false) ⌝ }
-    ensures { λ r. ⌜ r ≡ add binary32 sum (f32Term weight (now (cells .entry)) d) ⌝ }
+// A sum so far, and the NaNs counted so far.
+struct Tally {
+    sum: f32,
+    nans: u32,
+}
+
+// One row's term more, and one number more of a row behind it. They take turns: eight places a row apart would each be counted up from the last.
+fn with_term(t: Tally, weight: f32, cells: &[u8], next: &[u8], d: usize) -> Tally
+    requires { ⌜
+        (d * 4 + 4 ≤ length (now cells))
+        × (nanBits binary32 (f32At (now cells) d) ≡ false)
+        × (d * 4 + 4 ≤ length (now next))
+        × (t .nans ≤ 1024)
+        ⌝ }
+    ensures { λ r.
+        ⌜
+        (r .sum ≡ add binary32 (t .sum) (f32Term weight (now (cells .entry)) d))
+        × (r .nans ≡ t .nans + cond (nanBits binary32 (f32At (now (next .entry)) d)) 1 0)
+        ⌝ }
 {
-    sum + weight * plain_at(cells, d)
+    let sum = t.sum + weight * plain_at(cells, d);
+    let nans = t.nans + nan_at(next, d);
+    Tally { sum, nans }
 }
 
 // The Rust's `sv_accum_i4`.

@@ -1,9 +1,9 @@
--- A property of one of the numbers below n: found, or of none of them.
+-- A property of one of the numbers below n: found, or of none of them; and numbers that are counted up.
 -- Each holds by the definition, at the last number.
 use mathlib.Core.Path.{_≡_, refl}
 use mathlib.Core.Bool.{Bool, true, false, _||_}
-use Prim.Native.Nat.{ℕ, zero, suc, _+_, _<_}
-use native.Mathlib.Nat.{not-suc-le-zero}
+use Prim.Native.Nat.{ℕ, zero, suc, _+_, _*_, _≤_, _<_}
+use native.Mathlib.Nat.{not-suc-le-zero, suc-mul}
 use native.Mathlib.Numerals.{add-one}
 use native.Mathlib.Omega.{arith}
 use lib.Dec.{eqb}
@@ -44,3 +44,18 @@ found n i p b e false h = let d = some-none n i p h b in cc
 
 pub some-found : (n i : ℕ) (p : ℕ → Bool) → i < n → p i ≡ true → some n p ≡ true
 some-found n i p b e = found n i p b e (some n p) refl
+
+-- numbers added up: where they come to 0, what holds only of i whose number is not 0 holds of none
+pub sum-none : (n : ℕ) (f : ℕ → ℕ) (p : ℕ → Bool) → ((i : ℕ) → f i ≡ 0 → p i ≡ false) → turns n (λ i sum. sum + f i) 0 ≡ 0 → some n p ≡ false
+unfolding some turns
+sum-none zero f p h e = refl
+sum-none (suc n) f p h e =
+    let last : f n ≡ 0 = omega arith in
+    let before : turns n (λ i sum. sum + f i) 0 ≡ 0 = omega arith in
+    rw (sum-none n f p h before, h n last)
+
+-- n numbers of at most b come to at most n * b
+pub sum-most : (n b : ℕ) (f : ℕ → ℕ) → ((i : ℕ) → f i ≤ b) → turns n (λ i sum. sum + f i) 0 ≤ n * b
+unfolding turns
+sum-most zero b f h = omega arith
+sum-most (suc n) b f h = omega (arith, sum-most n b f h, h n, suc-mul n b)
