@@ -31,7 +31,7 @@ pub(crate) fn plain_at(cells: &[u8], d: usize) -> f32
     f32::from_bits(word_of(&cells[a..a + 4]))
 }
 
-// 1 where number `d` of F32 rows is a NaN, else 0: counted, since the back end counts four numbers at once.
+// 1 where number `d` of F32 rows is a NaN, else 0: a count, which the back end makes of four numbers at once.
 pub(crate) fn nan_at(cells: &[u8], d: usize) -> u32
     requires { ⌜ d * 4 + 4 ≤ length (now cells) ⌝ }
     ensures { λ r. ⌜ r ≡ cond (nanBits binary32 (f32At (now (cells .entry)) d)) 1 0 ⌝ }

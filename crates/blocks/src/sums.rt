@@ -136,7 +136,7 @@ fn add_f32(weight: f32, cells: &[u8], out: &mut [f32])
     }
 }
 
-// Four F32 rows without a NaN: each sum takes their terms in order. Meanwhile the NaNs of the next four are counted, so that no work waits for memory.
+// Four F32 rows without a NaN: each sum takes their terms in order, while the NaNs of the next four rows are counted.
 fn add_plain(
     w0: f32,
     w1: f32,
@@ -175,8 +175,8 @@ fn add_plain(
         ⌜
         r
         ≡ turns (length (now (out .entry)))
-        (λ d count.
-        count
+        (λ d nans.
+        nans
         + (cond (nanBits binary32 (f32At (now (n0 .entry)) d)) 1 0
         + cond (nanBits binary32 (f32At (now (n1 .entry)) d)) 1 0
         + cond (nanBits binary32 (f32At (now (n2 .entry)) d)) 1 0
