@@ -1,14 +1,11 @@
 -- The NaNs passed are counted.
-use mathlib.Core.Path.{_≡_, refl}
-use mathlib.Core.Bool.{cond}
+use mathlib.Core.Path.{_≡_}
 use Prim.Native.Nat.{_+_, _-_, _≤_}
 use native.Mathlib.Omega.{arith}
 use borrow.Author.Needs.{needs}
-use lib.Ieee.{binary32, nanBits}
 use Rattle.lists.specs.Chunks.{turns}
 use Rattle.lists.proofs.Some.{sum-most}
 use Rattle.lists.proofs.Turns.{turns-next}
-use Rattle.rows.specs.Row.{f32At}
 use Rattle.blocks.proofs.NanLaws.{nanCount, one-at-most}
 use Rattle.blocks.proofs.stored.nans.Statement.{statement}
 use Rattle.blocks.proofs.stored.nans.Tie as tie
