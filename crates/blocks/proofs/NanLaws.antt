@@ -11,11 +11,11 @@ use lib.Ieee.{Float, binary32, nanBits}
 use Rattle.lists.specs.Chunks.{turns, some, part}
 use Rattle.lists.proofs.Part.{room, part-part}
 use Rattle.lists.proofs.Some.{some-none, some-never, sum-none}
-use Rattle.shapes.specs.Shape.{ofFormat, cellBytes}
 use Rattle.rows.specs.Row.{f32At}
 use Rattle.rows.proofs.FitLaws.{fits-facts}
 use Rattle.blocks.specs.Fits.{Rows, IsF32}
 use Rattle.blocks.proofs.FourLaws.{quarter, quarter-f32}
+use Rattle.blocks.proofs.SumLaws.{bytes}
 
 -- 1 for what holds, 0 for what does not
 abbrev oneIf : Bool → ℕ
@@ -58,7 +58,7 @@ module _ (n0 n1 n2 n3 : List ℕ) where
   pub four-at-most : (d : ℕ) → fourNans d ≤ 4
   four-at-most d = omega (arith, one-at-most n0 d, one-at-most n1 d, one-at-most n2 d, one-at-most n3 d)
 
-  pub four-plain : (n : ℕ) → turns n (λ d nans. nans + fourNans d) 0 ≡ 0 → Plain n n0 × Plain n n1 × Plain n n2 × Plain n n3
+  four-plain : (n : ℕ) → turns n (λ d nans. nans + fourNans d) 0 ≡ 0 → Plain n n0 × Plain n n1 × Plain n n2 × Plain n n3
   four-plain n e = (
     sum-none n fourNans _ (λ d z. none _ (omega arith)) e,
     sum-none n fourNans _ (λ d z. none _ (omega arith)) e,
@@ -68,8 +68,7 @@ module _ (n0 n1 n2 n3 : List ℕ) where
 
 -- four F32 rows have four times as many numbers as one, and that is few
 pub four-size : (n cells scales : ℕ) → Rows 0 n 4 cells scales → (cells ≡ 4 * (n * 4)) × (n ≤ 256)
-unfolding cellBytes ofFormat
-four-size n cells scales h = let k = fits-facts (h .1) in (omega (arith, k .cell-bytes), k .small)
+four-size n cells scales h = let k = fits-facts (h .1) in (rw (bytes n) (k .cell-bytes), k .small)
 
 module _ (n : ℕ) (cells : List ℕ) (four : length cells ≡ 4 * (n * 4)) where
   -- row i has the numbers from i times as many on
@@ -79,11 +78,11 @@ module _ (n : ℕ) (cells : List ℕ) (four : length cells ≡ 4 * (n * 4)) wher
       let w : d * 4 + 4 ≤ n * 4 = omega arith in
       rw (q, one-mul, part-part (i * (n * 4)) (n * 4) (d * 4) 4 cells w, add-mul, mul-assoc)
 
-  -- so a row has a NaN only where all four have one
-  pub quarter-plain : (i : ℕ) {r : List ℕ} → i < 4 → r ≡ quarter i cells → Plain (4 * n) cells → Plain n r
+  -- so where the four have no NaN, no row has one
+  quarter-plain : (i : ℕ) {r : List ℕ} → i < 4 → r ≡ quarter i cells → Plain (4 * n) cells → Plain n r
   quarter-plain i b e h = some-never _ _ (λ d w. rw (e, quarter-number i d w) (some-none _ (i * n + d) _ h (omega (arith, room n b))))
 
-  -- and all four only where a row has one
+  -- and where no row has one, the four have none
   quarters : (i : ℕ) → Plain n (quarter 0 cells) → Plain n (quarter 1 cells) → Plain n (quarter 2 cells) → Plain n (quarter 3 cells) → i < 4
       → Plain n (quarter i cells)
   quarters zero p q r s b = p
@@ -92,7 +91,7 @@ module _ (n : ℕ) (cells : List ℕ) (four : length cells ≡ 4 * (n * 4)) wher
   quarters (suc (suc (suc zero))) p q r s b = s
   quarters (suc (suc (suc (suc i)))) p q r s b = absurd (omega arith)
 
-  pub quarters-plain : Plain n (quarter 0 cells) → Plain n (quarter 1 cells) → Plain n (quarter 2 cells) → Plain n (quarter 3 cells) → Plain (4 * n) cells
+  quarters-plain : Plain n (quarter 0 cells) → Plain n (quarter 1 cells) → Plain n (quarter 2 cells) → Plain n (quarter 3 cells) → Plain (4 * n) cells
   quarters-plain p q r s =
       some-never _ _
       (λ d b.
@@ -100,7 +99,7 @@ module _ (n : ℕ) (cells : List ℕ) (four : length cells ≡ 4 * (n * 4)) wher
       let v : d / n < 4 = div-lt-iff-lt-mul (omega arith) .1 b in
       rw (quarter-number (d / n) (d % n) w, div-add-mod' d n) at (some-none n (d % n) _ (quarters (d / n) p q r s v) w))
 
-  -- which a count of none says of each
+  -- which is what a count of none says
   pub scanned : {r0 r1 r2 r3 : List ℕ} {nans : ℕ} → r0 ≡ quarter 0 cells → r1 ≡ quarter 1 cells → r2 ≡ quarter 2 cells → r3 ≡ quarter 3 cells
       → nans ≡ turns n (λ d sum. sum + fourNans r0 r1 r2 r3 d) 0 → nans ≡ 0 → Plain (4 * n) cells
   scanned {r0} {r1} {r2} {r3} e0 e1 e2 e3 o z =

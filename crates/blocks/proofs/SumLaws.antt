@@ -20,7 +20,7 @@ use Rattle.blocks.specs.Fits.{Rows}
 use Rattle.blocks.proofs.PartLaws.{rows-inside, some-rows}
 use Rattle.blocks.proofs.FourLaws.{quarter}
 
-bytes : (d : ℕ) → d * 4 ≡ cellBytes 0 d
+pub bytes : (d : ℕ) → d * 4 ≡ cellBytes 0 d
 unfolding cellBytes ofFormat
 bytes d = omega arith
 

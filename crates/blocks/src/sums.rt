@@ -50,7 +50,7 @@ pub(crate) fn add_f32_rows(weights: &[f32], cells: &[u8], scales: &[u32], out: &
     add_rest(0, &weights[p..], cells_of(cells, c, p, n), scales, out);
 }
 
-// Adds the terms of four rows, at once where no NaN was found in them, and answers how many it finds in the next four.
+// Adds the terms of four rows, at once where no NaN was found in them, and answers 0 only where the next four have none.
 fn add_four(
     found: u32,
     weights: &[f32],
