@@ -10,7 +10,7 @@ use std::process::ExitCode;
 use std::time::Instant;
 
 const USAGE: &str =
-    "usage: oracle sweep | oracle slice | oracle speed [DIR] | oracle counts | oracle vectors DIR | oracle histories DIR";
+    "usage: oracle sweep | oracle slice | oracle speed [DIR] | oracle counts [FILE] | oracle vectors DIR | oracle histories DIR";
 
 fn main() -> ExitCode {
     let arguments: Vec<OsString> = env::args_os().skip(1).collect();
@@ -20,7 +20,8 @@ fn main() -> ExitCode {
         (Some("slice"), [_]) => compare(Reach::Slice),
         (Some("speed"), [_]) => speed::measure(None),
         (Some("speed"), [_, folder]) => speed::measure(Some(Path::new(folder))),
-        (Some("counts"), [_]) => speed::count(),
+        (Some("counts"), [_]) => speed::count(None),
+        (Some("counts"), [_, file]) => speed::count(Some(Path::new(file))),
         (Some(speed::COUNTING), [_]) => speed::run_counted(),
         (Some("vectors"), [_, folder]) => written(vectors::write, folder),
         (Some("histories"), [_, folder]) => written(histories::write, folder),

@@ -33,12 +33,12 @@ pub fn measure(folder: Option<&Path>) -> ExitCode {
     ended(measured(folder))
 }
 
-/// Prints the instructions of the bars' kernels.
-pub fn count() -> ExitCode {
-    ended(counts::print())
+/// Prints the instructions of the bars' kernels, from a file where they were counted into one.
+pub fn count(file: Option<&Path>) -> ExitCode {
+    ended(counts::print(file))
 }
 
-/// What `count` runs within valgrind.
+/// What is run where instructions are counted.
 pub fn run_counted() -> ExitCode {
     ended(counts::run_counted())
 }

@@ -1,4 +1,4 @@
-//! The instructions of the bars' kernels, counted by valgrind: no clock, and the same on a busy machine.
+//! The instructions of the bars' kernels, counted by valgrind or by an emulator: no clock, and the same on a busy machine.
 use super::bars::{BARS, SIZE};
 use super::callgrind;
 use super::kernel::{Kernel, Way};
@@ -10,7 +10,7 @@ use std::path::Path;
 use std::process::{self, Command, Stdio};
 use std::{env, fs, io};
 
-/// The command under which the oracle runs within valgrind.
+/// The command under which the oracle runs where it is counted.
 pub const COUNTING: &str = "counting";
 
 /// Instructions by the name of what they were counted for.
@@ -23,7 +23,7 @@ pub fn run_counted() -> Result<(), String> {
     for kernel in BARS.iter().map(|bar| bar.kernel) {
         progress.begin(&kernel.name());
         let mut bench = kernel.compared(&inputs)?;
-        for way in [Way::Ours, kernel.other()] {
+        for way in ways(&kernel) {
             bench.prepare(way);
             callgrind::counted(&label(&kernel, way), || bench.run(way));
         }
@@ -31,10 +31,19 @@ pub fn run_counted() -> Result<(), String> {
     Ok(())
 }
 
-/// Runs the oracle within valgrind and prints what was counted.
-pub fn print() -> Result<(), String> {
-    let counts = taken().map_err(|error| error.to_string())?;
-    print_table(&counts)
+/// Prints what an emulator counted into a file, or runs the oracle within valgrind and prints what that counted.
+pub fn print(file: Option<&Path>) -> Result<(), String> {
+    let counts = match file {
+        Some(file) => fs::read_to_string(file).map(|lines| in_order(&lines)),
+        None => taken(),
+    };
+    print_table(&counts.map_err(|error| error.to_string())?)
+}
+
+/// The counts of lines, one each, in the order in which kernels are run.
+fn in_order(lines: &str) -> Counts {
+    let counts = lines.lines().map_while(|line| line.parse().ok());
+    labels().zip(counts).collect()
 }
 
 /// The counts of a run within valgrind, whose files go to a folder that is gone afterwards.
@@ -77,6 +86,17 @@ fn counts_in(folder: &Path) -> io::Result<Counts> {
     Ok(counts)
 }
 
+/// The two ways in which a kernel is run, in their order.
+fn ways(kernel: &Kernel) -> [Way; 2] {
+    [Way::Ours, kernel.other()]
+}
+
+/// What is counted, in the order in which it is run.
+fn labels() -> impl Iterator<Item = String> {
+    let kernels = BARS.iter().map(|bar| bar.kernel);
+    kernels.flat_map(|kernel| ways(&kernel).map(|way| label(&kernel, way)))
+}
+
 /// What the instructions of a kernel are counted as.
 fn label(kernel: &Kernel, way: Way) -> String {
     format!("{}, {way:?}", kernel.name())
@@ -93,7 +113,7 @@ const COLUMNS: [Column; 4] = [
 /// Prints instructions for one number, and their ratio.
 fn print_table(counts: &Counts) -> Result<(), String> {
     println!(
-        "Instructions for one number, by callgrind: {} positions, H {}, D {}, against the lifted Rust, truncate and",
+        "Instructions for one number: {} positions, H {}, D {}, against the lifted Rust, truncate and",
         whole(SIZE.positions),
         SIZE.heads,
         SIZE.head_size
@@ -139,11 +159,19 @@ mod tests {
     }
 
     #[test]
+    fn lines_are_counts_in_the_order_of_the_runs() {
+        let counts = in_order("30\n40\n50\n");
+        let (first, second) = (BARS[0].kernel, BARS[1].kernel);
+        assert_eq!(counts[&label(&first, Way::Ours)], 30);
+        assert_eq!(counts[&label(&first, first.other())], 40);
+        assert_eq!(counts[&label(&second, Way::Ours)], 50);
+        assert_eq!(counts.len(), 3);
+        assert_eq!(in_order("30\nmany\n50\n").len(), 1);
+    }
+
+    #[test]
     fn no_two_counts_have_one_label() {
-        let kernels = BARS.iter().map(|bar| bar.kernel);
-        let mut labels: Vec<String> = kernels
-            .flat_map(|kernel| [Way::Ours, kernel.other()].map(|way| label(&kernel, way)))
-            .collect();
+        let mut labels: Vec<String> = labels().collect();
         labels.sort();
         labels.dedup();
         assert_eq!(labels.len(), 2 * BARS.len());
