@@ -1,4 +1,4 @@
-// Counts instructions where an emulator runs the oracle: a plugin of qemu's, whose own header is in no package of Debian's.
+// Counts instructions where an emulator runs the oracle: a plugin of qemu's. Debian's qemu-user brings no header for one.
 #include <inttypes.h>
 #include <stdio.h>
 #include <string.h>

@@ -40,9 +40,12 @@ pub fn print(file: Option<&Path>) -> Result<(), String> {
     print_table(&counts.map_err(|error| error.to_string())?)
 }
 
-/// The counts of lines, one each, in the order in which kernels are run.
+/// The counts of lines, one each, in the order in which kernels are run; none where they are not as many.
 fn in_order(lines: &str) -> Counts {
-    let counts = lines.lines().map_while(|line| line.parse().ok());
+    let counts: Vec<u64> = lines.lines().map_while(|line| line.parse().ok()).collect();
+    if counts.len() != labels().count() {
+        return Counts::new();
+    }
     labels().zip(counts).collect()
 }
 
@@ -160,13 +163,23 @@ mod tests {
 
     #[test]
     fn lines_are_counts_in_the_order_of_the_runs() {
-        let counts = in_order("30\n40\n50\n");
+        let lines: String = (30..)
+            .take(2 * BARS.len())
+            .map(|n| format!("{n}\n"))
+            .collect();
+        let counts = in_order(&lines);
         let (first, second) = (BARS[0].kernel, BARS[1].kernel);
         assert_eq!(counts[&label(&first, Way::Ours)], 30);
-        assert_eq!(counts[&label(&first, first.other())], 40);
-        assert_eq!(counts[&label(&second, Way::Ours)], 50);
-        assert_eq!(counts.len(), 3);
-        assert_eq!(in_order("30\nmany\n50\n").len(), 1);
+        assert_eq!(counts[&label(&first, first.other())], 31);
+        assert_eq!(counts[&label(&second, Way::Ours)], 32);
+        assert_eq!(counts.len(), 2 * BARS.len());
+        for wrong in [
+            &lines[3..],
+            &format!("{lines}7\n"),
+            &lines.replace("31", "many"),
+        ] {
+            assert!(in_order(wrong).is_empty(), "{wrong}");
+        }
     }
 
     #[test]
