@@ -1,16 +1,16 @@
 // Heads: scores and weighted sums over a stored head. The Rust's `decode_head_attention_f32` and `decode_head_attention_int4`, cut at the softmax.
-use blocks::block_scores;
-use blocks::block_sums;
 use blocks::has_scores;
 use layers::place_of;
 use replies::Reply;
 use replies::number;
+use scores::block_scores;
 use shapes::Shape;
 use shapes::cell_bytes;
 use shapes::scale_words;
 use store::Record;
 use store::length_of;
 use store::store_reply;
+use sums::block_sums;
 ghost use mathlib.Core.Path.{_≡_};
 ghost use mathlib.Core.List.{_++_};
 ghost use lib.ListN.{length};

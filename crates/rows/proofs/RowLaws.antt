@@ -1,16 +1,19 @@
 -- The lengths of a row's cells, scale words and numbers, and bytes and groups as a row has them.
 -- Each holds at each format, by the lengths of tables and of joined lists.
 use mathlib.Core.Path.{_≡_, refl, sym, ap, _∙_}
+use mathlib.Core.Bool.{cond}
 use mathlib.Core.List.{List, [], _++_, append-nil}
-use Prim.Native.Nat.{ℕ, zero, suc, _-_, _*_, _/_, _%_, _≤_}
+use Prim.Native.Nat.{ℕ, zero, suc, _+_, _-_, _*_, _/_, _%_, _≤_}
 use native.Mathlib.Omega.{arith}
+use lib.Dec.{eqb}
 use lib.Ieee.{Float}
 use lib.ListN.{length, getD, take, drop, drop-of-length-le}
 use lib.Seq.{take-at}
-use borrow.Author.Tests.{ne-eqb}
-use Rattle.lists.specs.Bytes.{little}
+use borrow.Author.Tests.{eq-eqb, ne-eqb}
+use Rattle.lists.specs.Bytes.{little, fromLittle}
 use Rattle.lists.specs.Chunks.{part, joined}
 use Rattle.lists.proofs.Bytes.{little-length}
+use Rattle.lists.proofs.Part.{part-length}
 use Rattle.lists.proofs.Tab.{tab-length}
 use Rattle.lists.proofs.Joined.{joined-length}
 use Rattle.numbers.specs.Word.{float, bf16}
@@ -85,3 +88,8 @@ empty l e = drop-of-length-le l {i = 0} (omega arith)
 -- the first of an array's words, lent as `&words[0..n]`, are the run's n
 pub first-lent : (run y r : List ℕ) → y ≡ run → take (length run - 0) (y ++ r) ≡ run
 first-lent run y r e = let z : length run - 0 ≡ length run = omega arith in rw (e, z) (take-at run r _ refl)
+
+-- the word of four bytes lent as `&l[a..a + 4]`
+pub word-lent : (l : List ℕ) (a : ℕ) {r : ℕ} → r ≡ cond (eqb (length (part a (a + 4 - a) l)) 4) (fromLittle (part a (a + 4 - a) l)) 0
+    → a + 4 ≤ length l → r ≡ fromLittle (part a 4 l)
+word-lent l a o h = let d : a + 4 - a ≡ 4 = omega arith in o ∙ rw (d, eq-eqb _ 4 (part-length a 4 l h))

@@ -14,8 +14,10 @@ use shapes::cell_bytes;
 use shapes::of_format;
 use shapes::scale_words;
 ghost use mathlib.Core.Path.{_≡_};
+ghost use mathlib.Core.Bool.{cond};
 ghost use mathlib.Core.List.{[], _∷_};
 ghost use Prim.Native.Nat.{_+_, _*_, _≤_};
+ghost use lib.Dec.{eqb};
 ghost use lib.ListN.{length};
 ghost use Rattle.replies.specs.Outcome.{answered};
 ghost use Rattle.numbers.specs.Word.{word};
@@ -62,11 +64,14 @@ pub fn get_row(format: u32, cells: &[u8], scales: &[u32], out: &mut [u32]) -> Re
     Reply::Done
 }
 
-// The word of four bytes, least significant first.
-pub fn word_of_bytes(b0: u8, b1: u8, b2: u8, b3: u8) -> u32
-    ensures { λ r. ⌜ r ≡ fromLittle (b0 ∷ b1 ∷ b2 ∷ b3 ∷ []) ⌝ }
+// The word of four bytes, least significant first, and 0 where there are not four. The back end loads bytes at once that are lent as a part.
+pub fn word_of(bytes: &[u8]) -> u32
+    ensures { λ r. ⌜ r ≡ cond (eqb (length (now (bytes .entry))) 4) (fromLittle (now (bytes .entry))) 0 ⌝ }
 {
-    b0 as u32 + 256 * b1 as u32 + 65_536 * b2 as u32 + 16_777_216 * b3 as u32
+    if bytes.len() != 4 {
+        return 0;
+    }
+    word_of_bytes(bytes[0], bytes[1], bytes[2], bytes[3])
 }
 
 // Whether the lengths are those of `m` rows of `d` numbers.
@@ -245,11 +250,10 @@ fn put_word(w: u32, cells: &mut [u8])
     cells[3] = (w / 16_777_216 % 256) as u8;
 }
 
-fn word_of(cells: &[u8]) -> u32
-    requires { ⌜ length (now cells) ≡ 4 ⌝ }
-    ensures { λ r. ⌜ r ≡ fromLittle (now (cells .entry)) ⌝ }
+fn word_of_bytes(b0: u8, b1: u8, b2: u8, b3: u8) -> u32
+    ensures { λ r. ⌜ r ≡ fromLittle (b0 ∷ b1 ∷ b2 ∷ b3 ∷ []) ⌝ }
 {
-    word_of_bytes(cells[0], cells[1], cells[2], cells[3])
+    b0 as u32 + 256 * b1 as u32 + 65_536 * b2 as u32 + 16_777_216 * b3 as u32
 }
 
 fn put_half(h: u16, cells: &mut [u8])

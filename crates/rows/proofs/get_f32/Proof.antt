@@ -1,14 +1,14 @@
 -- The numbers passed are read from the cells passed, and what is left is as it was.
 use mathlib.Core.Path.{_≡_, refl}
 use mathlib.Core.List.{_++_}
-use Prim.Native.Nat.{_-_, _≤_}
-use native.Mathlib.Nat.{add-sub-cancel-left}
+use Prim.Native.Nat.{_-_, _*_, _≤_}
 use native.Mathlib.Omega.{arith}
-use lib.ListN.{length, drop, length-take, length-drop}
+use lib.ListN.{length, drop}
 use borrow.Author.Needs.{needs}
 use Rattle.lists.specs.Chunks.{tab}
 use Rattle.lists.proofs.Tab.{tab-set, tab-done}
 use Rattle.rows.specs.Row.{f32At, f32Numbers}
+use Rattle.rows.proofs.RowLaws.{word-lent}
 use Rattle.rows.proofs.get_f32.Statement.{statement}
 use Rattle.rows.proofs.get_f32.Tie as tie
 
@@ -38,7 +38,7 @@ part-word-of-end : tie.Need-part-word-of-end Inv-loop μ-loop
 part-word-of-end c = search needs
 
 word-of-requires : tie.Need-word-of-requires Inv-loop μ-loop
-word-of-requires c κs = simp (length-take, length-drop) (omega arith)
+word-of-requires c κs = search needs
 
 mul-out : tie.Need-mul-out Inv-loop μ-loop
 mul-out c = search needs
@@ -54,7 +54,8 @@ loop-less c = search needs
 
 loop-again : tie.Need-loop-again Inv-loop μ-loop
 loop-again c =
-    (omega arith, tab-set _ _ _ (omega arith) (c .before .before .before .loop .inv .1) (rw (c .word-of .ensures, add-sub-cancel-left)), search needs)
+    let cells = c .before .before .before .before .before .before .args .cells .now in
+    (omega arith, tab-set _ _ _ (omega arith) (c .before .before .before .loop .inv .1) (word-lent cells (c .before .before .before .loop .d * 4) (c .word-of .ensures) (omega arith)), search needs)
 
 same-length : tie.Need-same-length Inv-loop μ-loop
 same-length c = search needs

@@ -1,0 +1,138 @@
+-- The scores passed are those of the rows passed, and what is left is as it was.
+use mathlib.Core.Path.{_≡_, refl, _∙_}
+use mathlib.Core.List.{_++_}
+use Prim.Native.Nat.{_+_, _-_, _*_, _≤_}
+use native.Mathlib.Omega.{arith}
+use borrow.Author.Needs.{needs}
+use lib.ListN.{length, drop}
+use Rattle.lists.specs.Chunks.{tab}
+use Rattle.lists.proofs.Tab.{tab-lent}
+use Rattle.rows.proofs.FitLaws.{fits-facts}
+use Rattle.blocks.specs.Order.{scoresOf}
+use Rattle.blocks.specs.Block.{blockScores}
+use Rattle.blocks.proofs.PartLaws.{scoreAt, part-inside, part-rows, part-scores}
+use Rattle.scores.proofs.score_fours.Statement.{statement}
+use Rattle.scores.proofs.score_fours.Tie as tie
+
+abbrev Inv-loop : tie.InvT-loop
+Inv-loop format query scale cells scales out₀ c w p₀ out p =
+    (p ≤ length out₀) × (out ≡ tab p (scoreAt format query scale cells scales) ++ drop p out₀) × (length out ≡ length out₀)
+
+abbrev μ-loop : tie.MeasureT-loop
+μ-loop format query scale cells scales out₀ c w p₀ out p = length out₀ - p
+
+-- four rows lie in the cells and in the scale words
+inside : (c : tie.In-loop Inv-loop μ-loop)
+    → let args = c .before .before .before .before .before .before .before .before .args in
+    let p = c .before .loop .p in
+    let r = c .before .before .before .cell-bytes .result in
+    let v = c .before .before .scale-words .result in
+    (p * r + 4 * r ≤ length (args .cells .now)) × (p * v + 4 * v ≤ length (args .scales .now))
+inside c =
+    let start = c .before .before .before .before .before .before .before .before in
+    part-inside _ _ _ (start .args .cells .now) (start .args .scales .now) (start .pre) (c .before .loop .p) 4 (omega arith)
+    (c .before .before .before .cell-bytes .ensures) (c .before .before .scale-words .ensures)
+
+cast-cell-bytes : tie.Need-cast-cell-bytes Inv-loop μ-loop
+cast-cell-bytes c = omega (arith, fits-facts ((c .before .before .before .before .pre) .1) .small)
+
+cell-bytes-requires : tie.Need-cell-bytes-requires Inv-loop μ-loop
+cell-bytes-requires c κs = search needs
+
+cast-scale-words : tie.Need-cast-scale-words Inv-loop μ-loop
+cast-scale-words c = omega (arith, fits-facts ((c .before .before .before .before .before .pre) .1) .small)
+
+scale-words-requires : tie.Need-scale-words-requires Inv-loop μ-loop
+scale-words-requires c κs = search needs
+
+loop-holds : tie.Need-loop-holds Inv-loop μ-loop
+unfolding tab
+loop-holds c = search needs
+
+sub-loop : tie.Need-sub-loop Inv-loop μ-loop
+sub-loop c = search needs
+
+cells-of-requires : tie.Need-cells-of-requires Inv-loop μ-loop
+cells-of-requires c κs = inside c .0
+
+scales-of-requires : tie.Need-scales-of-requires Inv-loop μ-loop
+scales-of-requires c κs = inside (c .before) .1
+
+score-four-requires : tie.Need-score-four-requires Inv-loop μ-loop
+score-four-requires c κs =
+    let k = c .before .before .before in
+    let start = k .before .before .before .before .before .before .before in
+    part-rows _ _ _ (start .args .cells .now) (start .args .scales .now) (start .pre) (k .loop .p) 4 (omega arith)
+    (k .before .before .cell-bytes .ensures) (k .before .scale-words .ensures) refl (c .before .cells-of .ensures) (c .scales-of .ensures)
+
+add-put-four : tie.Need-add-put-four Inv-loop μ-loop
+add-put-four c = search needs
+
+mul-put-four : tie.Need-mul-put-four Inv-loop μ-loop
+mul-put-four c = search needs
+
+sub-put-four : tie.Need-sub-put-four Inv-loop μ-loop
+sub-put-four c = search needs
+
+part-put-four-start : tie.Need-part-put-four-start Inv-loop μ-loop
+part-put-four-start c = search needs
+
+part-put-four-end : tie.Need-part-put-four-end Inv-loop μ-loop
+part-put-four-end c = search needs
+
+put-four-requires : tie.Need-put-four-requires Inv-loop μ-loop
+put-four-requires c κs = search needs
+
+add-p : tie.Need-add-p Inv-loop μ-loop
+add-p c = search needs
+
+loop-less : tie.Need-loop-less Inv-loop μ-loop
+loop-less c = search needs
+
+loop-again : tie.Need-loop-again Inv-loop μ-loop
+loop-again c =
+    let four = c .before .before .before .before in
+    let k = four .before .before .before .before in
+    let p = k .loop .p in
+    let args = k .before .before .before .before .before .before .before .args in
+    let scores = part-scores (args .format) (args .query .now) (args .scale) (args .cells .now) (args .scales .now) p 4
+    (k .before .before .cell-bytes .ensures) (k .before .scale-words .ensures) refl
+    (four .before .before .cells-of .ensures) (four .before .scales-of .ensures) in (
+      omega arith,
+      tab-lent p 4 _ (args .out .now) (k .loop .inv .1) refl (c .before .before .put-four .ensures ∙ four .score-four .ensures ∙ scores),
+      search needs,
+    )
+
+same-length : tie.Need-same-length Inv-loop μ-loop
+same-length c = search needs
+
+returns : tie.Need-returns Inv-loop μ-loop
+unfolding blockScores scoresOf
+returns c = (c .before .loop .inv .0, c .before .loop .inv .1)
+
+pub score-fours-spec : {M : Type 1} → statement M
+score-fours-spec =
+    tie.close
+    (tie.spec
+    Inv-loop
+    μ-loop
+    cast-cell-bytes
+    cell-bytes-requires
+    cast-scale-words
+    scale-words-requires
+    loop-holds
+    sub-loop
+    cells-of-requires
+    scales-of-requires
+    score-four-requires
+    add-put-four
+    mul-put-four
+    sub-put-four
+    part-put-four-start
+    part-put-four-end
+    put-four-requires
+    add-p
+    loop-less
+    loop-again
+    same-length
+    returns)

@@ -1,0 +1,106 @@
+// The scores of rows one by one, in each format that has scores.
+use numbers::codes::less_8;
+use numbers::words::word_to_f32;
+use rows::word_of;
+use shapes::cell_bytes;
+use shapes::scale_words;
+ghost use mathlib.Core.Path.{_≡_};
+ghost use Prim.Native.Nat.{_+_, _*_, _≤_};
+ghost use lib.ListN.{length};
+ghost use lib.Ieee.{binary32, mul};
+ghost use Rattle.numbers.specs.Word.{float};
+ghost use Rattle.rows.specs.Calls.{buffers};
+ghost use Rattle.rows.specs.Row.{f32At};
+ghost use Rattle.blocks.specs.Block.{blockScores};
+ghost use Rattle.blocks.specs.Order.{f32Dot, groupDot, int4Dot, rowDot};
+ghost use Rattle.blocks.specs.Fits.{Rows, IsF32, IsInt4};
+
+pub(crate) fn score_rest(
+    format: u32,
+    query: &[f32],
+    scale: f32,
+    cells: &[u8],
+    scales: &[u32],
+    out: &mut [f32],
+)
+    requires { ⌜ Rows format (length (now query)) (length (now out)) (length (now cells)) (length (now scales)) ⌝ }
+    ensures { λ _.
+        ⌜
+        now (out .exit)
+        ≡ blockScores format (now (query .entry)) scale (buffers (now (cells .entry)) (now (scales .entry))) (length (now (out .entry)))
+        ⌝ }
+{
+    let c = cell_bytes(format, query.len() as u32);
+    let w = scale_words(format, query.len() as u32);
+    let mut p = 0;
+    while p < out.len() {
+        let a = p * c;
+        let b = p * w;
+        out[p] = score_row(format, query, scale, &cells[a..a + c], &scales[b..b + w]);
+        p += 1;
+    }
+}
+
+fn score_row(format: u32, query: &[f32], scale: f32, cells: &[u8], scales: &[u32]) -> f32
+    requires { ⌜ Rows format (length (now query)) 1 (length (now cells)) (length (now scales)) ⌝ }
+    ensures { λ r. ⌜ r ≡ mul binary32 (rowDot format (now (query .entry)) (now (cells .entry)) (now (scales .entry))) scale ⌝ }
+{
+    if format == 0 {
+        return score_f32(query, scale, cells);
+    }
+    score_int4(query, scale, cells, scales)
+}
+
+fn score_f32(query: &[f32], scale: f32, cells: &[u8]) -> f32
+    requires { ⌜ IsF32 (length (now query)) (length (now cells)) ⌝ }
+    ensures { λ r. ⌜ r ≡ mul binary32 (f32Dot (now (query .entry)) (now (cells .entry))) scale ⌝ }
+{
+    let mut sum = 0.0;
+    let mut d = 0;
+    while d < query.len() {
+        sum = sum + query[d] * number_at(cells, d);
+        d += 1;
+    }
+    sum * scale
+}
+
+// The Rust's `dot_qf32_ki4`, times the given scale.
+fn score_int4(query: &[f32], scale: f32, cells: &[u8], scales: &[u32]) -> f32
+    requires { ⌜ IsInt4 (length (now query)) (length (now cells)) (length (now scales)) ⌝ }
+    ensures { λ r. ⌜ r ≡ mul binary32 (int4Dot (now (query .entry)) (now (cells .entry)) (now (scales .entry))) scale ⌝ }
+{
+    let mut total = 0.0;
+    let mut g = 0;
+    while g < scales.len() {
+        let a = g * 32;
+        let b = g * 16;
+        total = total + dot_group(&query[a..a + 32], &cells[b..b + 16], word_to_f32(scales[g]));
+        g += 1;
+    }
+    total * scale
+}
+
+// The group's sum, times the group's scale.
+fn dot_group(query: &[f32], bytes: &[u8], group_scale: f32) -> f32
+    requires { ⌜ (length (now query) ≡ 32) × (length (now bytes) ≡ 16) ⌝ }
+    ensures { λ r. ⌜ r ≡ mul binary32 (groupDot (now (query .entry)) (now (bytes .entry))) «group_scale» ⌝ }
+{
+    let mut sum = 0.0;
+    let mut i = 0;
+    while i < 16 {
+        let low = query[i] * less_8(bytes[i] % 16);
+        let high = query[i + 16] * less_8(bytes[i] / 16 % 16);
+        sum = sum + low + high;
+        i += 1;
+    }
+    sum * group_scale
+}
+
+// Number `d` of an F32 row.
+pub(crate) fn number_at(cells: &[u8], d: usize) -> f32
+    requires { ⌜ d * 4 + 4 ≤ length (now cells) ⌝ }
+    ensures { λ r. ⌜ r ≡ float (f32At (now (cells .entry)) d) ⌝ }
+{
+    let a = d * 4;
+    word_to_f32(word_of(&cells[a..a + 4]))
+}

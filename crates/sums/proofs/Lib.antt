@@ -1,0 +1,3 @@
+pub mod NanLaws
+pub mod RowLaws
+pub mod SumLaws

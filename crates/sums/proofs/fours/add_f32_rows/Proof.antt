@@ -1,0 +1,185 @@
+-- The terms of the positions passed are added, in their order; and where no NaN was found in the next four rows, there is none.
+use mathlib.Core.Path.{_≡_, refl, sym, _∙_}
+use Prim.Native.Nat.{ℕ, _+_, _-_, _*_, _≤_}
+use native.Mathlib.Nat.{add-sub-cancel-left}
+use native.Mathlib.Omega.{arith}
+use borrow.Author.Needs.{needs}
+use lib.ListN.{length}
+use Rattle.lists.specs.Chunks.{turns, part}
+use Rattle.rows.specs.Calls.{buffers}
+use Rattle.rows.proofs.FitLaws.{fits-facts}
+use Rattle.blocks.specs.Order.{added}
+use Rattle.blocks.specs.Block.{blockTerm}
+use Rattle.sums.proofs.NanLaws.{Plain}
+use Rattle.sums.proofs.SumLaws.{f32-inside, f32-count, f32-some, f32-after}
+use Rattle.sums.proofs.fours.add_f32_rows.Statement.{statement}
+use Rattle.sums.proofs.fours.add_f32_rows.Tie as tie
+
+abbrev Inv-loop : tie.InvT-loop
+Inv-loop weights cells scales out₀ c p₀ found₀ out p found =
+    (p ≤ length weights)
+    × (out ≡ turns p (λ i. added (blockTerm 0 weights (buffers cells scales) (length out₀) i)) out₀)
+    × (length out ≡ length out₀)
+    × (found ≡ 0 → Plain (4 * length out₀) (part (p * c) (4 * c) cells))
+
+abbrev μ-loop : tie.MeasureT-loop
+μ-loop weights cells scales out₀ c p₀ found₀ out p found = length weights - p
+
+-- the function's entry, from the loop
+abbrev start : tie.At-loop Inv-loop μ-loop → tie.Start Inv-loop μ-loop
+start c = c .before .before .before .before .before
+
+-- k rows from row p on lie in the cells
+inside : (c : tie.At-loop Inv-loop μ-loop) (p k : ℕ)
+    → let a = start c .args in
+    let r = length (a .out .now) * 4 in
+    p + k ≤ length (a .weights .now) → p * r + k * r ≤ length (a .cells .now)
+inside c p k b =
+    let a = start c .args in f32-inside (a .weights .now) (a .cells .now) (a .scales .now) (length (a .out .now)) (start c .pre) p k b
+
+mul-c : tie.Need-mul-c Inv-loop μ-loop
+mul-c c = omega (arith, fits-facts (c .before .before .before .before .pre .1) .small)
+
+loop-holds : tie.Need-loop-holds Inv-loop μ-loop
+unfolding turns
+loop-holds c = (omega arith, refl, refl, λ z. absurd (omega arith))
+
+sub-loop : tie.Need-sub-loop Inv-loop μ-loop
+sub-loop c = search needs
+
+add-add-four : tie.Need-add-add-four Inv-loop μ-loop
+add-add-four c = search needs
+
+mul-add-four : tie.Need-mul-add-four Inv-loop μ-loop
+mul-add-four c = search needs
+
+sub-add-four : tie.Need-sub-add-four Inv-loop μ-loop
+sub-add-four c = search needs
+
+part-add-four-start : tie.Need-part-add-four-start Inv-loop μ-loop
+part-add-four-start c = search needs
+
+part-add-four-end : tie.Need-part-add-four-end Inv-loop μ-loop
+part-add-four-end c = search needs
+
+cells-of-requires : tie.Need-cells-of-requires Inv-loop μ-loop
+cells-of-requires c κs = inside (c .before .before) (c .before .before .loop .p) 4 (omega arith)
+
+add-cells-of : tie.Need-add-cells-of Inv-loop μ-loop
+add-cells-of c = search needs
+
+cells-of-requires-2 : tie.Need-cells-of-requires-2 Inv-loop μ-loop
+cells-of-requires-2 c κs = inside (c .before .before .before) (c .before .before .before .loop .p + 4) 4 (omega arith)
+
+add-four-requires : tie.Need-add-four-requires Inv-loop μ-loop
+add-four-requires c κs =
+    let k = c .before .before .before .before .before in
+    let s = start k in
+    let a = s .args in
+    let p = k .loop .p in
+    let i = k .loop .inv in
+    let count = f32-count (a .weights .now) (a .cells .now) (a .scales .now) (length (a .out .now)) (s .pre) in
+    let here = c .before .before .cells-of .ensures in
+    let behind = c .before .cells-of2 .ensures in (
+      (
+        c .before .before .before .add-four-arg .given .2 ∙ add-sub-cancel-left _ _,
+        rw (i .2) (f32-some (a .weights .now) (a .cells .now) (a .scales .now) (length (a .out .now)) (s .pre) p 4 (omega arith) here),
+        count (p + 4) 4 _ (omega arith) behind ∙ sym (count p 4 _ (omega arith) here),
+      ),
+      λ z. rw (i .2, here) (i .3 z),
+    )
+
+add-p : tie.Need-add-p Inv-loop μ-loop
+add-p c = omega (arith, c .before .before .before .before .before .before .before .loop-test .taken, c .before .before .before .before .before .before .before .before .loop .inv .0)
+
+loop-less : tie.Need-loop-less Inv-loop μ-loop
+loop-less c = omega (arith, c .before .before .before .before .before .before .before .loop-test .taken, c .before .before .before .before .before .before .before .before .loop .inv .0)
+
+loop-again : tie.Need-loop-again Inv-loop μ-loop
+loop-again c =
+    let k = c .before .before .before .before .before .before .before .before in
+    let s = start k in
+    let a = s .args in
+    let p = k .loop .p in
+    let i = k .loop .inv in
+    let u : part p (p + 4 - p) (a .weights .now) ≡ part p 4 (a .weights .now) = rw add-sub-cancel-left in
+    let y = c .before .before .add-four in
+    let test = c .before .before .before .before .before .before .before .loop-test .taken in (
+      omega arith,
+      f32-after (a .weights .now) (a .cells .now) (a .scales .now) (length (a .out .now)) (s .pre) p 4 (a .out .now) (omega arith) (i .2) u
+          (c .before .before .before .before .before .cells-of .ensures) (i .1) (y .ensures .0),
+      y .kept .1 .1 .1 .1 .1 .0 ∙ i .2,
+      λ z. rw (i .2, c .before .before .before .before .cells-of2 .ensures) at (y .ensures .1 z),
+    )
+
+sub-n : tie.Need-sub-n Inv-loop μ-loop
+sub-n c = search needs
+
+mul-add-rest : tie.Need-mul-add-rest Inv-loop μ-loop
+mul-add-rest c = search needs
+
+sub-add-rest : tie.Need-sub-add-rest Inv-loop μ-loop
+sub-add-rest c = search needs
+
+part-add-rest-start : tie.Need-part-add-rest-start Inv-loop μ-loop
+part-add-rest-start c = search needs
+
+part-add-rest-end : tie.Need-part-add-rest-end Inv-loop μ-loop
+part-add-rest-end c = search needs
+
+cells-of-requires-3 : tie.Need-cells-of-requires-3 Inv-loop μ-loop
+cells-of-requires-3 c κs = inside (c .before .before) (c .before .before .loop .p) _ (omega arith)
+
+add-rest-requires : tie.Need-add-rest-requires Inv-loop μ-loop
+add-rest-requires c κs =
+    let k = c .before .before .before .before in
+    let s = start k in
+    let a = s .args in
+    rw (c .before .before .add-rest-arg .given .2, k .loop .inv .2)
+    (f32-some (a .weights .now) (a .cells .now) (a .scales .now) (length (a .out .now)) (s .pre) (k .loop .p) _ (omega arith) (c .before .cells-of3 .ensures))
+
+same-length : tie.Need-same-length Inv-loop μ-loop
+same-length c = search needs
+
+returns : tie.Need-returns Inv-loop μ-loop
+returns c =
+    let k = c .before .before .before .before .before .before .before in
+    let s = start k in
+    let a = s .args in
+    let p = k .loop .p in
+    let m = length (a .weights .now) in
+    let e : p + (m - p) ≡ m = omega arith in
+    rw e at
+    (f32-after (a .weights .now) (a .cells .now) (a .scales .now) (length (a .out .now)) (s .pre) p (m - p) (a .out .now) (omega arith) (k .loop .inv .2) refl
+    (c .before .before .before .before .cells-of3 .ensures) (k .loop .inv .1) (c .before .before .add-rest .ensures))
+
+pub add-f32-rows-spec : {M : Type 1} → statement M
+add-f32-rows-spec =
+    tie.close
+    (tie.spec
+    Inv-loop
+    μ-loop
+    mul-c
+    loop-holds
+    sub-loop
+    add-add-four
+    mul-add-four
+    sub-add-four
+    part-add-four-start
+    part-add-four-end
+    cells-of-requires
+    add-cells-of
+    cells-of-requires-2
+    add-four-requires
+    add-p
+    loop-less
+    loop-again
+    sub-n
+    mul-add-rest
+    sub-add-rest
+    part-add-rest-start
+    part-add-rest-end
+    cells-of-requires-3
+    add-rest-requires
+    same-length
+    returns)

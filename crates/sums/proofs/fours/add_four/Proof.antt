@@ -1,0 +1,134 @@
+-- Rows in which no NaN was found are added at once, others one by one; and where none is counted in the next four there is none.
+use mathlib.Core.Path.{_∙_}
+use native.Mathlib.Omega.{arith}
+use borrow.Author.Needs.{needs}
+use lib.ListN.{length}
+use Rattle.sums.proofs.NanLaws.{counted-plain, four-size, scanned, plain-row, next-row}
+use Rattle.sums.proofs.SumLaws.{four-rows}
+use Rattle.sums.proofs.fours.add_four.Statement.{statement}
+use Rattle.sums.proofs.fours.add_four.Tie as tie
+
+shared-slice-read-add-plain : tie.Need-shared-slice-read-add-plain
+shared-slice-read-add-plain c = search needs
+
+shared-slice-read-add-plain-2 : tie.Need-shared-slice-read-add-plain-2
+shared-slice-read-add-plain-2 c = search needs
+
+shared-slice-read-add-plain-3 : tie.Need-shared-slice-read-add-plain-3
+shared-slice-read-add-plain-3 c = search needs
+
+shared-slice-read-add-plain-4 : tie.Need-shared-slice-read-add-plain-4
+shared-slice-read-add-plain-4 c = search needs
+
+cells-of-requires : tie.Need-cells-of-requires
+cells-of-requires c κs = search needs
+
+cells-of-requires-2 : tie.Need-cells-of-requires-2
+cells-of-requires-2 c κs = search needs
+
+cells-of-requires-3 : tie.Need-cells-of-requires-3
+cells-of-requires-3 c κs = search needs
+
+cells-of-requires-4 : tie.Need-cells-of-requires-4
+cells-of-requires-4 c κs = search needs
+
+cells-of-requires-5 : tie.Need-cells-of-requires-5
+cells-of-requires-5 c κs = search needs
+
+cells-of-requires-6 : tie.Need-cells-of-requires-6
+cells-of-requires-6 c κs = search needs
+
+cells-of-requires-7 : tie.Need-cells-of-requires-7
+cells-of-requires-7 c κs = search needs
+
+cells-of-requires-8 : tie.Need-cells-of-requires-8
+cells-of-requires-8 c κs = omega (arith, c .before .before .before .before .before .before .before .before .before .before .before .before .before .before .before .before .before .pre .0 .2)
+
+add-plain-requires : tie.Need-add-plain-requires
+add-plain-requires c κs =
+    let s = c .before .before .before .before .before .before .before .before .before .before .before .before .before .before .before .before .before .before .before in
+    let h = s .pre .0 in
+    let plain = s .pre .1 (c .before .before .before .before .before .before .before .before .before .before .before .before .before .if1 .taken) in
+    let row = plain-row (s .args .cells .now) (s .args .scales .now) (s .args .out .now) (h .1) in
+    let behind = next-row (s .args .cells .now) (s .args .scales .now) (s .args .out .now) (h .1) (s .args .next .now) (h .2) in (
+      row 0 _ (omega arith) plain (c .before .before .before .before .before .before .before .before .cells-of .ensures),
+      (
+        row 1 _ (omega arith) plain (c .before .before .before .before .before .before .before .cells-of2 .ensures),
+        (
+          row 2 _ (omega arith) plain (c .before .before .before .before .before .before .cells-of3 .ensures),
+          (
+            row 3 _ (omega arith) plain (c .before .before .before .before .before .cells-of4 .ensures),
+            (
+              behind 0 _ (omega arith) (c .before .before .before .before .cells-of5 .ensures),
+              behind 1 _ (omega arith) (c .before .before .before .cells-of6 .ensures),
+              behind 2 _ (omega arith) (c .before .before .cells-of7 .ensures),
+              behind 3 _ (omega arith) (c .before .cells-of8 .ensures),
+              four-size _ _ _ (h .1) .1,
+            ),
+          ),
+        ),
+      ),
+    )
+
+same-length : tie.Need-same-length
+same-length c = search needs
+
+returns : tie.Need-returns
+returns c =
+    let s = c .before .before .before .before .before .before .before .before .before .before .before .before .before .before .before .before .before .before .before .before .before .before in
+    let h = s .pre .0 in
+    let four = four-size _ _ _ (h .1) in (
+      four-rows (s .args .cells .now) (s .args .scales .now) (s .args .out .now) (h .1) (s .args .weights .now) (h .0)
+          (c .before .before .before .before .before .before .before .before .before .before .before .cells-of .ensures) (c .before .before .before .before .before .before .before .before .before .before .cells-of2 .ensures)
+          (c .before .before .before .before .before .before .before .before .before .cells-of3 .ensures) (c .before .before .before .before .before .before .before .before .cells-of4 .ensures)
+          (c .before .before .add-plain .ensures .0),
+      scanned (length (s .args .out .now)) (s .args .next .now) (h .2 ∙ four .0)
+          (rw (h .2) (c .before .before .before .before .before .before .before .cells-of5 .ensures)) (rw (h .2) (c .before .before .before .before .before .before .cells-of6 .ensures))
+          (rw (h .2) (c .before .before .before .before .before .cells-of7 .ensures)) (rw (h .2) (c .before .before .before .before .cells-of8 .ensures))
+          (c .before .before .add-plain .ensures .1),
+    )
+
+add-rest-requires : tie.Need-add-rest-requires
+add-rest-requires c κs = let h = c .before .before .before .before .before .before .before .pre .0 in rw (h .0) (h .1)
+
+mul-nans : tie.Need-mul-nans
+mul-nans c = search needs
+
+nans-requires : tie.Need-nans-requires
+nans-requires c κs =
+    let h = c .before .before .before .before .before .before .before .before .before .before .pre .0 in
+    let four = four-size _ _ _ (h .1) in
+    omega (arith, four .0, four .1, h .2)
+
+same-length-2 : tie.Need-same-length-2
+same-length-2 c = search needs
+
+returns-2 : tie.Need-returns-2
+returns-2 c =
+    let s = c .before .before .before .before .before .before .before .before .before .before .before in
+    (c .before .before .before .add-rest .ensures, counted-plain (s .args .next .now) (c .nans .ensures) (c .before .before .before .add-rest .kept .1 .1 .1 .1 .0))
+
+pub add-four-spec : {M : Type 1} → statement M
+add-four-spec =
+    tie.close
+    (tie.spec
+    shared-slice-read-add-plain
+    shared-slice-read-add-plain-2
+    shared-slice-read-add-plain-3
+    shared-slice-read-add-plain-4
+    cells-of-requires
+    cells-of-requires-2
+    cells-of-requires-3
+    cells-of-requires-4
+    cells-of-requires-5
+    cells-of-requires-6
+    cells-of-requires-7
+    cells-of-requires-8
+    add-plain-requires
+    same-length
+    returns
+    add-rest-requires
+    mul-nans
+    nans-requires
+    same-length-2
+    returns-2)

@@ -1,0 +1,80 @@
+// Sums: the first positions of one head's block under weights, in the Rust's order of float operations.
+pub(crate) mod fours;
+pub(crate) mod rest;
+pub(crate) mod stored;
+
+use blocks::block_reply;
+use fours::add_f32_rows;
+use replies::Reply;
+use replies::number;
+use rest::add_rest;
+ghost use mathlib.Core.Path.{_≡_};
+ghost use lib.ListN.{length, replicate};
+ghost use Rattle.lists.specs.Chunks.{turns};
+ghost use Rattle.numbers.specs.Word.{float};
+ghost use Rattle.replies.specs.Outcome.{answered};
+ghost use Rattle.rows.specs.Calls.{buffers};
+ghost use Rattle.blocks.specs.Order.{added};
+ghost use Rattle.blocks.specs.Block.{blockTerm, blockSums, blockSumsOf};
+ghost use Rattle.blocks.specs.Fits.{Rows};
+
+// Sums as many positions as there are weights. The second half of the same.
+pub fn block_sums(
+    format: u32,
+    weights: &[f32],
+    cells: &[u8],
+    scales: &[u32],
+    out: &mut [f32],
+) -> Reply
+    ensures { λ r.
+        ⌜
+        answered r (now (out .exit))
+        ≡ blockSumsOf format (now (weights .entry)) (buffers (now (cells .entry)) (now (scales .entry))) (now (out .entry))
+        ⌝ }
+{
+    let reply = block_reply(format, out.len(), weights.len(), cells.len(), scales.len());
+    if number(reply) == 0 {
+        sum_rows(format, weights, cells, scales, out);
+    }
+    reply
+}
+
+fn sum_rows(format: u32, weights: &[f32], cells: &[u8], scales: &[u32], out: &mut [f32])
+    requires { ⌜ Rows format (length (now out)) (length (now weights)) (length (now cells)) (length (now scales)) ⌝ }
+    ensures { λ _.
+        ⌜
+        now (out .exit)
+        ≡ blockSums format (now (weights .entry)) (buffers (now (cells .entry)) (now (scales .entry))) (length (now (out .entry)))
+        ⌝ }
+{
+    zero_numbers(out);
+    add_rows(format, weights, cells, scales, out);
+}
+
+fn zero_numbers(out: &mut [f32])
+    ensures { λ _. ⌜ now (out .exit) ≡ replicate (length (now (out .entry))) (float 0) ⌝ }
+{
+    let mut i = 0;
+    while i < out.len() {
+        out[i] = 0.0;
+        i += 1;
+    }
+}
+
+// Adds the terms of each position to what is there.
+fn add_rows(format: u32, weights: &[f32], cells: &[u8], scales: &[u32], out: &mut [f32])
+    requires { ⌜ Rows format (length (now out)) (length (now weights)) (length (now cells)) (length (now scales)) ⌝ }
+    ensures { λ _.
+        ⌜
+        now (out .exit)
+        ≡ turns (length (now (weights .entry)))
+        (λ p. added (blockTerm format (now (weights .entry)) (buffers (now (cells .entry)) (now (scales .entry))) (length (now (out .entry))) p))
+        (now (out .entry))
+        ⌝ }
+{
+    if format == 0 {
+        add_f32_rows(weights, cells, scales, out);
+        return;
+    }
+    add_rest(format, weights, cells, scales, out);
+}
