@@ -1,7 +1,6 @@
 // Cells: rows of numbers in both buffers, appended, removed and read. The caller says how many positions a layer has.
 use layers::clear_layer;
 use layers::place_of;
-use layers::put_layer;
 use layers::zero_cells;
 use layers::zero_words;
 use replies::Reply;
@@ -11,6 +10,7 @@ use shapes::Shape;
 use shapes::cell_bytes;
 use shapes::room_reply;
 use shapes::scale_words;
+use writes::put_layer;
 ghost use mathlib.Core.Path.{_≡_};
 ghost use mathlib.Core.List.{_++_};
 ghost use Prim.Native.Nat.{_≤_};

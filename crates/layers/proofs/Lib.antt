@@ -3,7 +3,6 @@ pub mod FitLaws
 pub mod LayerLaws
 pub mod LentLaws
 pub mod PlaceLaws
-pub mod PositionLaws
 pub mod RunLaws
 pub mod SizeLaws
 pub mod SpanLaws

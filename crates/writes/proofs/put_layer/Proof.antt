@@ -10,11 +10,11 @@ use Rattle.replies.specs.Outcome.{lowest, outcome}
 use Rattle.replies.proofs.Flags.{both-true, passed, failed}
 use Rattle.replies.proofs.Refusals.{test-done}
 use Rattle.shapes.specs.Shape.{width}
 use Rattle.layers.specs.Calls.{layerFits, numbersFit, putLayerOf}
 use Rattle.layers.proofs.SizeLaws.{numbers-few}
 use Rattle.layers.proofs.FitLaws.{fits-facts}
-use Rattle.layers.proofs.put_layer.Statement.{statement}
-use Rattle.layers.proofs.put_layer.Tie as tie
+use Rattle.writes.proofs.put_layer.Statement.{statement}
+use Rattle.writes.proofs.put_layer.Tie as tie
 
 layer-fits-requires : tie.Need-layer-fits-requires
 layer-fits-requires c κs = search needs

@@ -1,7 +1,7 @@
 -- Each arm names the shape's own format.
 use borrow.Author.Needs.{needs}
-use Rattle.layers.proofs.put_rows.Statement.{statement}
-use Rattle.layers.proofs.put_rows.Tie as tie
+use Rattle.writes.proofs.put_rows.Statement.{statement}
+use Rattle.writes.proofs.put_rows.Tie as tie
 
 put-rows-in-requires : tie.Need-put-rows-in-requires
 put-rows-in-requires c κs = search needs

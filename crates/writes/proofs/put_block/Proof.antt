@@ -5,10 +5,10 @@ use native.Mathlib.Omega.{arith}
 use borrow.Author.Needs.{needs}
 use lib.ListN.{length}
 use Rattle.lists.proofs.Part.{lent-count}
 use Rattle.layers.proofs.SizeLaws.{span-in}
 use Rattle.layers.proofs.LentLaws.{put-lent}
-use Rattle.layers.proofs.put_block.Statement.{statement}
-use Rattle.layers.proofs.put_block.Tie as tie
+use Rattle.writes.proofs.put_block.Statement.{statement}
+use Rattle.writes.proofs.put_block.Tie as tie
 
 cell-bytes-requires : tie.Need-cell-bytes-requires
 cell-bytes-requires c κs = search needs

@@ -9,10 +9,10 @@ use Rattle.lists.proofs.Part.{lent-count}
 use Rattle.shapes.specs.Shape.{bytesOf, wordsOf, width}
 use Rattle.shapes.proofs.ShapeLaws.{width-in}
 use Rattle.rows.specs.Row.{rowCells, rowScales}
-use Rattle.layers.proofs.PositionLaws.{Positions, Known, no-positions, position-turn, positions-done}
+use Rattle.writes.proofs.PositionLaws.{Positions, Known, no-positions, position-turn, positions-done}
 use Rattle.layers.proofs.RunLaws.{cell-rows, scale-rows}
-use Rattle.layers.proofs.put_positions.Statement.{statement}
-use Rattle.layers.proofs.put_positions.Tie as tie
+use Rattle.writes.proofs.put_positions.Statement.{statement}
+use Rattle.writes.proofs.put_positions.Tie as tie
 
 abbrev Inv-loop : tie.InvT-loop
 Inv-loop shape p n numbers cells₀ scales₀ width j₀ cells scales j =

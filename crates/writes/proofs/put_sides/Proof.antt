@@ -5,11 +5,11 @@ use native.Mathlib.Omega.{arith}
 use borrow.Author.Needs.{needs}
 use Rattle.lists.proofs.Part.{lent-count}
 use Rattle.shapes.specs.Shape.{bytesOf, wordsOf}
 use Rattle.layers.specs.Calls.{sideOf, cellRow, scaleRow}
 use Rattle.layers.proofs.LentLaws.{Sides, half, sides-lent}
 use Rattle.layers.proofs.RunLaws.{cell-layer, scale-layer}
-use Rattle.layers.proofs.put_sides.Statement.{statement}
-use Rattle.layers.proofs.put_sides.Tie as tie
+use Rattle.writes.proofs.put_sides.Statement.{statement}
+use Rattle.writes.proofs.put_sides.Tie as tie
 
 -- what is known of the sides of each buffer
 cells-sides : (c : tie.Start) → let a = c .args in Sides (bytesOf (a .shape)) (a .shape) (a .p) (a .n) (λ side. cellRow (a .shape) (sideOf (a .keys .now) (a .values .now) side)) (a .cells .now)

@@ -12,11 +12,11 @@ use Rattle.shapes.specs.Shape.{headSize, cellBytes, scaleWords, width}
 use Rattle.shapes.proofs.ShapeLaws.{width-in}
 use Rattle.rows.specs.Row.{rowCells, rowScales}
 use Rattle.rows.proofs.FitLaws.{put-left}
 use Rattle.layers.specs.Calls.{headNumbers}
 use Rattle.layers.proofs.ChunkLaws.{Rows}
 use Rattle.layers.proofs.RunLaws.{numbers-in, run-lent, head-cells, head-scales, head-fits}
-use Rattle.layers.proofs.put_rows_in.Statement.{statement}
-use Rattle.layers.proofs.put_rows_in.Tie as tie
+use Rattle.writes.proofs.put_rows_in.Statement.{statement}
+use Rattle.writes.proofs.put_rows_in.Tie as tie
 
 abbrev Inv-loop : tie.InvT-loop
 Inv-loop format h n numbers cells₀ scales₀ d c w width i₀ cells scales i =

@@ -10,13 +10,13 @@ use Rattle.lists.specs.Chunks.{each}
 use Rattle.lists.proofs.Part.{lent-count}
 use Rattle.lists.proofs.Loop.{Passed, chunk-in, chunk-turn}
 use Rattle.shapes.specs.Shape.{bytesOf, wordsOf}
 use Rattle.layers.specs.Layer.{blockSize, put}
 use Rattle.layers.specs.Calls.{cellRow, scaleRow}
 use Rattle.layers.proofs.SizeLaws.{cells-small, words-small}
 use Rattle.layers.proofs.ChunkLaws.{Heads, heads, heads-done}
 use Rattle.layers.proofs.RunLaws.{cell-rows, scale-rows}
-use Rattle.layers.proofs.put_side.Statement.{statement}
-use Rattle.layers.proofs.put_side.Tie as tie
+use Rattle.writes.proofs.put_side.Statement.{statement}
+use Rattle.writes.proofs.put_side.Tie as tie
 
 abbrev Inv-loop : tie.InvT-loop
 Inv-loop shape p n numbers cells₀ scales₀ c w h₀ cells scales h =
