@@ -18,7 +18,7 @@ ghost use Rattle.blocks.specs.Order.{added};
 ghost use Rattle.blocks.specs.Block.{blockTerm, blockSums, blockSumsOf};
 ghost use Rattle.blocks.specs.Fits.{Rows};
 
-// Sums as many positions as there are weights. The second half of the same.
+// Sums as many positions as there are weights. The second half of the Rust's `decode_head_attention_f32` and `decode_head_attention_int4`.
 pub fn block_sums(
     format: u32,
     weights: &[f32],
