@@ -2,16 +2,16 @@
 use Prim.Native.Nat.{ℕ}
 use mathlib.Core.Path.{_≡_}
 use mathlib.Core.List.{List, [], _∷_, _++_, map}
-use lib.ListN.{replicate}
+use lib.ListN.{length, replicate}
 use lib.Ieee.{nan}
 use Rattle.numbers.specs.Word.{float, word, bf16}
 use Rattle.numbers.specs.Scale.{scaleOf}
-use Rattle.numbers.specs.Code.{code8}
+use Rattle.numbers.specs.Code.{code8, code4}
 use Rattle.groups.specs.Group.{packed, unpacked}
-use Rattle.replies.specs.Outcome.{Outcome, lowest}
+use Rattle.replies.specs.Outcome.{Outcome}
 use Rattle.shapes.specs.declared.Shape.{Shape}
-use Rattle.shapes.specs.Shape.{headSize, cellTotal, scaleTotal, roomRefusals}
-use Rattle.rows.specs.Calls.{buffers}
+use Rattle.shapes.specs.Shape.{headSize, cellTotal, scaleTotal}
+use Rattle.rows.specs.Calls.{Buffers, buffers}
 use Rattle.store.specs.Calls.{Store, openOf, appendOf}
 use Rattle.heads.specs.Calls.{headScoresOf, headSumsOf}
 
@@ -22,8 +22,9 @@ pub data Asked : Type 0 where
   run8 : List ℕ → Asked
   -- a run of 32 in INT4: its scale, its bytes, and what these read as
   group4 : List ℕ → Asked
-  -- the INT8 code of a quotient, by its pattern
+  -- the INT8 and the INT4 code of a quotient, by its pattern
   quotient : ℕ → Asked
+  quotient4 : ℕ → Asked
   -- the BF16 pattern of a word
   half : ℕ → Asked
   -- keys and values appended to a store of a shape, newly opened in used buffers: the reply, all cells, all scale words
@@ -32,8 +33,6 @@ pub data Asked : Type 0 where
   scored : Shape → List ℕ → List ℕ → List ℕ → ℕ → ℕ → Asked
   -- and summed under weights: the reply, the sums
   weighed : Shape → List ℕ → List ℕ → List ℕ → Asked
-  -- a shape, lent exactly its need: the reply
-  opened : Shape → Asked
 
 -- a shape in the paper's order
 abbrev shape : ℕ → ℕ → ℕ → ℕ → ℕ → Shape
@@ -51,6 +50,7 @@ answer (scale divisor run) = word (scaleOf divisor run) ∷ []
 answer (run8 run) = word (scaleOf 127 run) ∷ map (λ w. code8 w (scaleOf 127 run)) run
 answer (group4 run) = word (scaleOf 7 run) ∷ (packed run (scaleOf 7 run) ++ unpacked (packed run (scaleOf 7 run)) (scaleOf 7 run))
 answer (quotient bits) = code8 bits (float 0x3f80_0000) ∷ []
+answer (quotient4 bits) = code4 bits (float 0x3f80_0000) ∷ []
 answer (half w) = bf16 w ∷ []
 answer (stored s keys values) = let done = filled s keys values in done .reply ∷ (done .left .lent .cells ++ done .left .lent .scales)
 answer (scored s keys values query x m) =
@@ -61,14 +61,17 @@ answer (weighed s keys values weights) =
     let b = filled s keys values .left in
     let done = headSumsOf (b .rec) (b .lent) 0 0 (map float weights) (replicate (headSize s) nan) in
     done .reply ∷ map word (done .left)
-answer (opened s) = lowest (roomRefusals s (cellTotal s) (scaleTotal s)) ∷ []
 
--- example n of the paper: what is asked, and what it says
+-- example n of the paper
 pub data Example : Type 0 where
+  -- what is asked, and what it says
   P : ℕ → Asked → List ℕ → Example
+  -- a shape opened in any buffers of exactly its need, and the reply
+  Opened : ℕ → Shape → ℕ → Example
 
 abbrev pub Holds : Example → Type 0
 Holds (P n asked said) = answer asked ≡ said
+Holds (Opened n s reply) = (b : Buffers) → length (b .cells) ≡ cellTotal s → length (b .scales) ≡ scaleTotal s → openOf s b .reply ≡ reply
 
 abbrev pub AllHold : List Example → Type 0
 AllHold [] = Unit {0}
@@ -106,6 +109,9 @@ examples =
     ∷ P 7 (quotient 0x3eff_ffff) (0 ∷ [])
     ∷ P 7 (quotient 0x3f00_0000) (1 ∷ [])
     ∷ P 7 (quotient 0xbf00_0000) (0xff ∷ [])
+    ∷ P 7 (quotient4 0x3eff_ffff) (8 ∷ [])
+    ∷ P 7 (quotient4 0x3f00_0000) (9 ∷ [])
+    ∷ P 7 (quotient4 0xbf00_0000) (7 ∷ [])
     ∷ P 8 (half 0x3f80_8000) (0x3f80 ∷ [])
     ∷ P 8 (half 0x3f81_8000) (0x3f82 ∷ [])
     ∷ P 8 (half 0x7f7f_ffff) (0x7f80 ∷ [])
@@ -116,6 +122,6 @@ examples =
     ∷ P 9 (scored (shape 3 1 1 32 1) group2 (all 32 0) (0x4000_0000 ∷ all 15 0 ++ (0x4040_0000 ∷ all 15 0)) 0x3f00_0000 1) (0 ∷ 0xc060_0000 ∷ [])
     ∷ P 9 (weighed (shape 3 1 1 32 1) (all 32 0) group2 (0x3e80_0000 ∷ [])) (0 ∷ 0x3fe0_0000 ∷ all 15 0 ++ (0xbfe0_0000 ∷ all 15 0))
     -- F32, H 64, D 256, C 4,096
-    ∷ P 10 (opened (shape 0 2 64 256 4096)) (0 ∷ [])
-    ∷ P 10 (opened (shape 0 3 64 256 4096)) (1 ∷ [])
+    ∷ Opened 10 (shape 0 2 64 256 4096) 0
+    ∷ Opened 10 (shape 0 3 64 256 4096) 1
     ∷ []

@@ -1,14 +1,16 @@
 -- The lengths of a group's two forms, what its test tells, and how the two halves of the numbers make the whole.
-use mathlib.Core.Path.{_≡_}
+use mathlib.Core.Path.{_≡_, refl, sym, _∙_}
 use mathlib.Core.Bool.{true}
 use mathlib.Core.List.{List, _++_, append-assoc}
-use Prim.Native.Nat.{ℕ, _+_, _≤_}
+use Prim.Native.Nat.{ℕ, _+_, _/_, _%_, _^_, _≤_}
 use borrow.Author.Tests.{leb-true}
 use lib.Dec.{leb}
-use lib.ListN.{length, take, drop, length-append}
+use lib.ListN.{length, getD, take, drop, replicate, length-append, getD-replicate}
 use lib.Seq.{take-at, drop-at, drop-drop}
 use lib.Ieee.{Float}
-use Rattle.lists.proofs.Tab.{tab-length}
+use Rattle.lists.proofs.Tab.{tab-length, tab-same, tab-replicate}
+use Rattle.numbers.specs.Word.{word}
+use Rattle.numbers.specs.Code.{code4, read4}
 use Rattle.replies.proofs.Flags.{both}
 use Rattle.groups.specs.Group.{packed, half, unpacked, holds, byteAt, numberAt}
 
@@ -37,3 +39,18 @@ unfolding unpacked
 halves bytes scale l =
     let e = half-length 0 bytes scale in
     rw (take-at _ (drop 16 l) 16 e, drop-at _ (drop 16 l) 16 e, drop-drop, append-assoc)
+
+-- a group of which every number has the code 8, and what such bytes read as
+pub packed-alike : (numbers : List ℕ) (scale : Float) → ((i : ℕ) → code4 (getD numbers i 0) scale ≡ 8) → packed numbers scale ≡ replicate 16 136
+unfolding packed
+packed-alike numbers scale h =
+    tab-same 16 (byteAt numbers scale) (λ (i : ℕ). 136) (λ i l. rw (h i, h (i + 16))) ∙ sym (tab-replicate 16 136)
+
+half-alike : (k : ℕ) (scale : Float) → 136 / 2 ^ k % 16 ≡ 8 → half k (replicate 16 136) scale ≡ replicate 16 (word (read4 8 scale))
+unfolding half
+half-alike k scale h =
+    tab-same 16 (numberAt k (replicate 16 136) scale) (λ (i : ℕ). word (read4 8 scale)) (λ i l. rw (getD-replicate {A = ℕ} 16 i 136 0 l, h)) ∙ sym (tab-replicate 16 (word (read4 8 scale)))
+
+pub unpacked-alike : (scale : Float) → unpacked (replicate 16 136) scale ≡ replicate 32 (word (read4 8 scale))
+unfolding unpacked
+unpacked-alike scale = rw (half-alike 0 scale refl, half-alike 4 scale refl)

@@ -1,5 +1,5 @@
 -- A held number lies in its clamp range, so an INT8 code is a byte other than 80 hex, and an INT4 code is a nibble.
-use mathlib.Core.Path.{_≡_}
+use mathlib.Core.Path.{_≡_, ap}
 use mathlib.Core.Logic.{_≢_}
 use Prim.Native.Nat.{ℕ, zero, suc, _+_, _%_, _≤_, _<_, zero-le}
 use native.Mathlib.Nat.{le-refl, min-le-right}
@@ -42,6 +42,15 @@ byte (pos n) h = omega arith
 byte (negsuc n) h = omega arith
 
 module _ (w : ℕ) (scale : Float) where
+  -- the code of a number whose quotient is held as z
+  pub code8-held : {z : ℤ} → held 127 127 (div binary32 (float w) scale) ≡ z → code8 w scale ≡ ofZ w8 z
+  unfolding code8
+  code8-held h = ap (ofZ w8) h
+
+  pub code4-held : {z : ℤ} → held 8 7 (div binary32 (float w) scale) ≡ z → code4 w scale ≡ above 8 z
+  unfolding code4
+  code4-held h = ap (above 8) h
+
   code8-of : (code8 w scale < 256) × (code8 w scale ≢ 128) × (above 256 (held 127 127 (div binary32 (float w) scale)) % 256 ≡ code8 w scale)
   unfolding code8
   code8-of = byte (held 127 127 (div binary32 (float w) scale)) (held-within 127 127 (div binary32 (float w) scale))

@@ -1,8 +1,11 @@
 pub mod CodeLaws
 mod Halves
+pub mod KindLaws
 mod Largest
 mod Patterns
 pub mod Reading
 mod Rounding
+pub mod RunLaws
 pub mod ScaleLaws
 mod Signs
+pub mod ValueLaws

@@ -27,7 +27,7 @@ nearest-near q r c l = by (compare (r * 2) c) (leb→le (r * 2) c) (nleb→lt (r
         record { over = rw (add-mul q (q % 2) c) (omega arith); under = rw (add-mul q (q % 2) c) (omega arith) }
     by Ordering·gt le gt eq = let h : c < r * 2 = gt tt in record { over = rw (suc-mul q c) (omega arith); under = rw (suc-mul q c) (omega arith) }
 
-closest-near : (a c : ℕ) → 0 < c → Near a c (closest a c)
+pub closest-near : (a c : ℕ) → 0 < c → Near a c (closest a c)
 closest-near a c p = rw (div-add-mod' a c) at (nearest-near (a / c) (a % c) c (mod-lt a p))
 
 -- the whole number nearest to a / c, halves upwards, against a whole number k

@@ -41,7 +41,7 @@ cond-plain : (b : Bool) (x y : Float) → T (plain x) → T (plain y) → T (pla
 cond-plain true x y p q = p
 cond-plain false x y p q = q
 
-larger-plain : (a x : Float) → T (plain a) → T (plain (larger a (magnitude x)))
+pub larger-plain : (a x : Float) → T (plain a) → T (plain (larger a (magnitude x)))
 unfolding larger magnitude
 larger-plain a nan t = rw (larger-nan a) t
 larger-plain a (inf s) t = cond-plain (lt a (inf false)) (inf false) a tt t
@@ -64,7 +64,7 @@ units-plain q k = cond-plain (ltb (q * 2 ^ k) (2 ^ 277)) (odd 25 false q k 149) 
 round-plain : (a c : ℕ) → T (plain (round binary32 false a c))
 round-plain a c = rw (round-is binary32 false a c) (units-plain _ _)
 
-no-product : (u n d : ℕ) → 0 * u * 1 ≡ n * d → 0 < n → 0 < d → ⊥
+pub no-product : (u n d : ℕ) → 0 * u * 1 ≡ n * d → 0 < n → 0 < d → ⊥
 no-product u n d e h k = omega (arith, mul-pos h k)
 
 -- divided by a whole number above 0, such a float stays one

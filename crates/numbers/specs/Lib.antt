@@ -1,3 +1,4 @@
 pub mod Word
 pub mod Scale
 pub mod Code
+pub mod Kind
