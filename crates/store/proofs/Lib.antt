@@ -1,4 +1,5 @@
 pub mod CallLaws
 pub mod Determined
 pub mod Exactly
+pub mod Nothing
 pub mod StoreLaws
