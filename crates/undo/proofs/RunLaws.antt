@@ -16,7 +16,7 @@ use Rattle.rows.specs.Calls.{Buffers}
 use Rattle.store.specs.declared.Record.{Record}
 use Rattle.store.specs.Record.{seqLen, lengthOf, withSeqLen}
 use Rattle.store.specs.Calls.{Store, store, storeRefusals, recordRefusals, appendOf, truncateOf, advanceOf}
-use Rattle.undo.specs.Sequence.{Call, append, truncate, advance, reads, readReply, does, run, accepted}
+use Rattle.undo.specs.Sequence.{Call, append, truncate, advance, reads, readReply, does, run, counted, accepted}
 use Rattle.undo.specs.Survivors.{Rows, kept, keptFrom}
 use Rattle.undo.proofs.StoreLaws.{Renders}
 use Rattle.undo.proofs.ChangeLaws.{append-done, truncate-done, advance-done}
@@ -83,7 +83,7 @@ step {s} {t} {of} c x = subst (λ (s : Shape). Renders s t of → Steps s t of c
 
 -- a run of calls
 kept-next : (s : Shape) (l : ℕ) (r : Rows) (c : Call) (others : List Call) (flag : Bool)
-    → keptFrom s l (cond flag (kept s l r c) r) others ≡ keptFrom s l r (cond flag (c ∷ others) others)
+    → keptFrom s l (cond flag (kept s l r c) r) others ≡ keptFrom s l r (counted flag c others)
 unfolding keptFrom
 kept-next s l r c others true = refl
 kept-next s l r c others false = refl

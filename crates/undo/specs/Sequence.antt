@@ -1,6 +1,6 @@
 -- Calls in a sequence: the paper's section Calls. What a call does is said by the definition that its own statement cites.
 use Prim.Native.Nat.{ℕ}
-use mathlib.Core.Bool.{cond}
+use mathlib.Core.Bool.{Bool, cond}
 use mathlib.Core.List.{List, [], _∷_}
 use lib.Dec.{eqb}
 use lib.Ieee.{Float}
@@ -52,8 +52,10 @@ unfoldable pub run : List Call → Store → Store
 run [] t = t
 run (c ∷ calls) t = run calls (does c t .left)
 
+-- a call counts where it was done
+abbrev pub counted : Bool → Call → List Call → List Call
+counted done c others = cond done (c ∷ others) others
+
 unfoldable pub accepted : List Call → Store → List Call
 accepted [] t = []
-accepted (c ∷ calls) t =
-    let others = accepted calls (does c t .left) in
-    cond (eqb (does c t .reply) 0) (c ∷ others) others
+accepted (c ∷ calls) t = counted (eqb (does c t .reply) 0) c (accepted calls (does c t .left))
