@@ -8,7 +8,8 @@
  * processor rounds to nearest and keeps subnormals, as it does unless a program sets it otherwise or is linked with
  * -ffast-math.
  *
- * A number in an array is a binary32 float; those that are stored pass as their bits, so that a NaN keeps its own.
+ * A number in an array is a binary32 float. Those that are stored pass as their bits, so that a NaN keeps its own. A NaN
+ * that a call computes is written as 7FC00000, and an output of a refused call keeps every bit.
  */
 #ifndef KV_H
 #define KV_H

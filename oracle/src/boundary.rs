@@ -100,7 +100,7 @@ extern "C" {
         query: *const f32,
         query_length: usize,
         scale: f32,
-        out: *mut f32,
+        out: *mut u32,
         out_length: usize,
     ) -> u32;
     fn kv_sums(
@@ -113,7 +113,7 @@ extern "C" {
         head: u32,
         weights: *const f32,
         weights_length: usize,
-        out: *mut f32,
+        out: *mut u32,
         out_length: usize,
     ) -> u32;
 }
@@ -284,7 +284,7 @@ pub fn read_row(lending: Lending, place: Place, output: &mut [u32]) -> u32 {
 }
 
 /// Scores the first positions of a head, as many as the output has places; the reply.
-/// Floats are held as words, so that the bits of a NaN that is not written stay.
+/// The query is held as words, so that no bits of a NaN change on the way.
 pub fn scores(lending: Lending, head: Head, query: &[u32], scale: f32, output: &mut [u32]) -> u32 {
     unsafe {
         kv_scores(
@@ -298,7 +298,7 @@ pub fn scores(lending: Lending, head: Head, query: &[u32], scale: f32, output: &
             query.as_ptr().cast(),
             query.len(),
             scale,
-            output.as_mut_ptr().cast(),
+            output.as_mut_ptr(),
             output.len(),
         )
     }
@@ -317,7 +317,7 @@ pub fn sums(lending: Lending, head: Head, weights: &[u32], output: &mut [u32]) -
             head.head,
             weights.as_ptr().cast(),
             weights.len(),
-            output.as_mut_ptr().cast(),
+            output.as_mut_ptr(),
             output.len(),
         )
     }

@@ -154,12 +154,12 @@ fn read_row(record: &Record, dice: &mut Dice) -> Call {
     read_into(place, lent, dice)
 }
 
-/// A row read into a dirty output of so many places, as far as they are not too many.
+/// A row read into an output of so many NaN, as far as they are not too many.
 pub fn read_into(place: Place, lent: usize, dice: &mut Dice) -> Call {
     let lent = lent.min(MOST_PLACES);
     Call::ReadRow {
         place,
-        output: dice.words(lent + GUARD),
+        output: words::nans(lent + GUARD, dice),
         lent,
     }
 }

@@ -16,8 +16,8 @@ use std::{fs, io};
 const CELLS: (usize, u8) = (2048, 0xA5);
 /// Scale words at hand, and what each holds at first.
 const SCALES: (usize, u32) = (256, 0xA5A5_A5A5);
-/// What each place of an output holds before a call.
-const OUTPUT: u32 = 0xDEAD;
+/// What each place of an output holds before a call: a NaN, whose sign and payload a refused call keeps.
+const OUTPUT: u32 = 0xFF80_DEAD;
 /// Words of a line at most.
 const MOST_WORDS: usize = 256;
 

@@ -1,7 +1,6 @@
 //! A caller of the library.
 use crate::boundary::{self, Lending};
 use crate::calls::{Answer, Call, Holdings, Told};
-use crate::rules;
 
 /// What a count holds before it is asked for.
 const DIRT: u64 = 0xA5A5_A5A5_A5A5_A5A5;
@@ -12,19 +11,8 @@ pub struct Ours {
 }
 
 impl Ours {
-    /// Plays a call; every NaN that scores or sums made is told as the same one.
-    pub fn play(&mut self, call: &Call) -> Answer {
-        let mut answer = self.play_bits(call);
-        if let (Call::Scores { lent, .. } | Call::Sums { lent, .. }, boundary::DONE) =
-            (call, answer.reply)
-        {
-            unite_nans(&mut answer.told, *lent);
-        }
-        answer
-    }
-
     /// Plays a call, and tells every bit of what it made.
-    pub fn play_bits(&mut self, call: &Call) -> Answer {
+    pub fn play(&mut self, call: &Call) -> Answer {
         match call {
             Call::Open(shape) => plain(boundary::open(self.lending(), shape)),
             Call::Append {
@@ -104,15 +92,6 @@ fn plain(reply: u32) -> Answer {
 fn filled(reply: u32, output: Vec<u32>) -> Answer {
     let told = Told::Output(output);
     Answer { reply, told }
-}
-
-/// Makes every NaN of an output's front the same one.
-fn unite_nans(told: &mut Told, lent: usize) {
-    if let Told::Output(output) = told {
-        for word in &mut output[..lent] {
-            *word = rules::word_of(f32::from_bits(*word));
-        }
-    }
 }
 
 /// The reply and the count of a question.

@@ -84,6 +84,12 @@ pub fn nan(dice: &mut Dice) -> u32 {
     signed(INFINITY + 1 + dice.below(0x7F_FFFF), dice)
 }
 
+/// So many NaN, none of them the one of arithmetic: what an output holds before a call, so that one that is settled shows.
+pub fn nans(count: usize, dice: &mut Dice) -> Vec<u32> {
+    let words = dice.words(count).into_iter();
+    words.map(|word| word | INFINITY | 1).collect()
+}
+
 /// A number from about 2^-17 to 2^16.
 pub fn moderate(dice: &mut Dice) -> u32 {
     let exponent = 110 + dice.below(33);
@@ -143,4 +149,21 @@ fn with_an_infinity(length: usize, dice: &mut Dice) -> Vec<u32> {
 /// The numbers of a run of words.
 pub fn numbers(run: &[u32]) -> Vec<f32> {
     run.iter().copied().map(f32::from_bits).collect()
+}
+
+#[cfg(test)]
+mod tests {
+    use super::*;
+    use crate::rules::word_of;
+
+    #[test]
+    fn a_settled_nan_of_an_output_shows() {
+        let nans = nans(1000, &mut Dice::of("outputs", 0));
+        assert!(nans.iter().all(|&nan| f32::from_bits(nan).is_nan()));
+        assert!(nans.iter().all(|&nan| word_of(f32::from_bits(nan)) != nan));
+        let quiet = |nan: &u32| nan & 0x0040_0000 != 0;
+        for (sign, payload) in [(0, true), (0, false), (SIGN, true), (SIGN, false)] {
+            assert!(nans.iter().any(|nan| nan & SIGN == sign && quiet(nan) == payload));
+        }
+    }
 }

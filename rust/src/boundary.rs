@@ -118,7 +118,7 @@ unsafe extern "C" {
         query: *const f32,
         query_len: usize,
         scale: f32,
-        out: *mut f32,
+        out: *mut u32,
         out_len: usize,
     ) -> u32;
     fn kv_sums(
@@ -131,7 +131,7 @@ unsafe extern "C" {
         head: u32,
         weights: *const f32,
         weights_len: usize,
-        out: *mut f32,
+        out: *mut u32,
         out_len: usize,
     ) -> u32;
     fn kv_int8_scale(run: *const u32, run_len: usize) -> f32;
@@ -254,7 +254,7 @@ pub fn scores(
     scale: f32,
     out: &mut [f32],
 ) -> Result<(), Refusal> {
-    // SAFETY: what is lent and the query are read alone; only `out` is written.
+    // SAFETY: what is lent and the query are read alone; only `out` is written, with words that are floats.
     answer(unsafe {
         kv_scores(
             &lent.record,
@@ -267,7 +267,7 @@ pub fn scores(
             query.as_ptr(),
             query.len(),
             scale,
-            out.as_mut_ptr(),
+            out.as_mut_ptr().cast::<u32>(),
             out.len(),
         )
     })
@@ -281,7 +281,7 @@ pub fn sums(
     weights: &[f32],
     out: &mut [f32],
 ) -> Result<(), Refusal> {
-    // SAFETY: what is lent and the weights are read alone; only `out` is written.
+    // SAFETY: what is lent and the weights are read alone; only `out` is written, with words that are floats.
     answer(unsafe {
         kv_sums(
             &lent.record,
@@ -293,7 +293,7 @@ pub fn sums(
             head,
             weights.as_ptr(),
             weights.len(),
-            out.as_mut_ptr(),
+            out.as_mut_ptr().cast::<u32>(),
             out.len(),
         )
     })

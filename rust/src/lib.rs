@@ -35,8 +35,8 @@
 //! # What is proved
 //!
 //! Every call is one function of a static library. Its source is proved, for all inputs, to do what the paper
-//! (`docs/PAPER.md`) says, bit for bit, a NaN made by arithmetic counting as any NaN, or to give the one [`Refusal`] that
-//! the paper names and change nothing; and the undo is a theorem over the same definitions.
+//! (`docs/PAPER.md`) says, bit for bit, a NaN made by arithmetic being written as 7FC00000, or to give the one [`Refusal`]
+//! that the paper names and change no bit; and the undo is a theorem over the same definitions.
 //!
 //! # What is assumed
 //!

@@ -290,7 +290,7 @@ impl Store {
     /// Scores the first positions of a head's keys, as many as `out` has places, under a query of `head_size` numbers;
     /// F32 and INT4.
     ///
-    /// The sign and payload of a NaN are free.
+    /// A NaN is the word 7FC00000.
     ///
     /// # Errors
     ///
@@ -321,7 +321,7 @@ impl Store {
     /// Sums the first positions of a head's values, as many as there are weights, each times its weight, into the
     /// `head_size` numbers of `out`; F32 and INT4.
     ///
-    /// The sign and payload of a NaN are free.
+    /// A NaN is the word 7FC00000.
     ///
     /// # Errors
     ///

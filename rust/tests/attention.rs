@@ -3,7 +3,7 @@ mod common;
 
 use common::desk::{token, Desk, Token};
 use common::dice::Dice;
-use common::{heads, made, paper, scores, shape, softmax, sums};
+use common::{bits, heads, made, paper, scores, shape, softmax, sums};
 use karonjeenu::{Format, Refusal, Shape, Store};
 
 const WITH_ATTENTION: [Format; 2] = [Format::F32, Format::Int4];
@@ -39,16 +39,16 @@ fn attention_is_plain(desk: &Desk, dice: &mut Dice) -> Vec<f32> {
             .iter()
             .map(|key| paper::score(format, &query, key, scale))
             .collect();
-        assert_eq!(made(&scored), made(&wanted), "{format:?}: scores");
+        assert_eq!(bits(&scored), made(&wanted), "{format:?}: scores");
         for count in [shape.capacity, 3, 1, 0] {
             let weights = softmax(&scored[..count]);
             let summed = sums(&desk.store, layer, head, &weights);
             let wanted = paper::sums(format, &weights, &values, shape.head_size);
-            assert_eq!(made(&summed), made(&wanted), "{format:?}: sums");
+            assert_eq!(bits(&summed), made(&wanted), "{format:?}: sums");
             let mut few = vec![0.0; count];
             let answer = desk.store.scores(layer, head, &query, scale, &mut few);
             assert_eq!(answer, Ok(()));
-            assert_eq!(made(&few), made(&scored[..count]));
+            assert_eq!(bits(&few), bits(&scored[..count]));
         }
         all.extend(scored);
     }
@@ -89,7 +89,7 @@ fn order_of_operations_shows_in_the_bits() {
         .iter()
         .map(|key| paper::score(Format::F32, &backwards(&query), &backwards(key), 1.0));
     let turned: Vec<f32> = turned.collect();
-    assert_ne!(made(&scores(&desk.store, 0, 0, &query, 1.0)), made(&turned));
+    assert_ne!(bits(&scores(&desk.store, 0, 0, &query, 1.0)), made(&turned));
 }
 
 #[test]

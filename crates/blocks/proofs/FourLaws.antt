@@ -10,6 +10,7 @@ use lib.ListN.{length}
 use lib.Ieee.{Float, binary32, mul}
 use Rattle.lists.specs.Chunks.{tab, part}
 use Rattle.shapes.specs.Shape.{cellBytes, scaleWords}
+use Rattle.numbers.specs.Word.{word}
 use Rattle.rows.specs.Calls.{buffers}
 use Rattle.rows.proofs.FitLaws.{fits-facts}
 use Rattle.blocks.specs.Order.{f32Dot, int4Dot, rowDot, scoresOf}
@@ -54,7 +55,7 @@ module _ (format : ℕ) (query : List Float) (cells scales : List ℕ) where
 
     -- the four scores
     pub four-scores : (x : Float) {s0 s1 s2 s3 : Float} → Score x 0 s0 → Score x 1 s1 → Score x 2 s2 → Score x 3 s3
-        → s0 ∷ s1 ∷ s2 ∷ s3 ∷ [] ≡ blockScores format query x (buffers cells scales) 4
+        → word s0 ∷ word s1 ∷ word s2 ∷ word s3 ∷ [] ≡ blockScores format query x (buffers cells scales) 4
     unfolding blockScores scoresOf tab
     four-scores x e0 e1 e2 e3 =
         let B = cellBytes format (length query) in

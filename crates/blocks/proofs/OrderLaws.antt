@@ -1,18 +1,18 @@
 -- Terms added to a sum and to a list of sums: place by place, a stretch at a time, position after position; and scores and sums of positions that agree.
 -- Each holds by the laws of tables and turns, since a place's sum takes its own terms alone, in their order.
-use mathlib.Core.Path.{_≡_, refl, _∙_}
-use mathlib.Core.List.{List, _++_, append-assoc}
+use mathlib.Core.Path.{_≡_, refl, ap, _∙_}
+use mathlib.Core.List.{List, _++_, map, append-assoc}
 use Prim.Native.Nat.{ℕ, zero, suc, _+_, _-_, _≤_, _<_}
 use native.Mathlib.Numerals.{add-one}
 use native.Mathlib.Omega.{arith}
-use lib.ListN.{length, getD, set, take, drop, replicate}
+use lib.ListN.{length, getD, set, take, drop, replicate, length-map, List·getD-map}
 use lib.Seq.{take-at, drop-at, drop-drop, getD-take, getD-drop}
 use lib.Ieee.{Float, nan, binary32, add}
 use Rattle.lists.specs.Chunks.{tab, turns, part}
-use Rattle.lists.proofs.Tab.{tab-length, tab-getD, tab-same, tab-replicate, tab-add, tab-set, tab-next, tab-done}
+use Rattle.lists.proofs.Tab.{tab-length, tab-getD, tab-of, tab-same, tab-replicate, tab-add, tab-set, tab-next, tab-done}
 use Rattle.lists.proofs.Turns.{turns-next, turns-same}
 use Rattle.lists.proofs.Part.{part-length}
-use Rattle.numbers.specs.Word.{float}
+use Rattle.numbers.specs.Word.{float, word}
 use Rattle.blocks.specs.Order.{summed, scoresOf, sumsOf, added}
 
 -- one term more
@@ -44,15 +44,26 @@ module _ (t0 t1 t2 t3 : ℕ → Float) (l : List Float) where
   pub four-all : {j : ℕ} {out : List Float} → out ≡ tab j fourTerms ++ drop j l → j ≡ length l → out ≡ added t3 (added t2 (added t1 (added t0 l)))
   four-all o e = tab-done (length l) _ l o e refl ∙ rw (added-is t0 l, added-tab, added-tab, added-tab)
 
+-- d sums before they become words
+abbrev columns : ℕ → ℕ → (ℕ → ℕ → Float) → List Float
+columns d m term = tab d (λ i. summed m (λ p. term p i))
+
 -- the two loop orders: one position's terms added to the sums of the positions before it, and all positions
-pub rows-turn : (d p : ℕ) (term : ℕ → ℕ → Float) {cur : List Float} → cur ≡ sumsOf d p term → added (term p) cur ≡ sumsOf d (p + 1) term
-unfolding sumsOf
+rows-turn : (d p : ℕ) (term : ℕ → ℕ → Float) {cur : List Float} → cur ≡ columns d p term → added (term p) cur ≡ columns d (p + 1) term
 rows-turn d p term e = rw (e, added-tab) (tab-same d _ _ (λ i b. summed-next p (λ q. term q i) refl refl))
 
-pub rows-columns : (d m : ℕ) (term : ℕ → ℕ → Float) → turns m (λ p. added (term p)) (replicate d (float 0)) ≡ sumsOf d m term
-unfolding turns sumsOf summed
+pub rows-columns : (d m : ℕ) (term : ℕ → ℕ → Float) → turns m (λ p. added (term p)) (replicate d (float 0)) ≡ columns d m term
+unfolding turns summed
 rows-columns d zero term = tab-replicate d (float 0)
 rows-columns d (suc m) term = rows-turn d m term (rows-columns d m term) ∙ rw add-one
+
+-- the words of floats, as a table; those of the columns are the sums
+pub words-tab : (l : List Float) → map word l ≡ tab (length l) (λ i. word (getD l i nan))
+words-tab l = tab-of _ _ (map word l) (word nan) (length-map l word) (λ i b. List·getD-map word l i nan)
+
+pub sums-words : (d m : ℕ) (term : ℕ → ℕ → Float) → map word (turns m (λ p. added (term p)) (replicate d (float 0))) ≡ sumsOf d m term
+unfolding sumsOf
+sums-words d m term = rw (rows-columns d m term, words-tab, tab-length) (tab-same d _ _ (λ i b. rw tab-getD))
 
 -- l with its term added at each of the first j places
 abbrev pub addedTo : ℕ → (ℕ → Float) → List Float → List Float
@@ -91,4 +102,4 @@ scores-same m dot dot′ x e = tab-same m _ _ (λ p u. rw (e p u))
 
 pub sums-same : (d m : ℕ) (term term′ : ℕ → ℕ → Float) → ((p i : ℕ) → p < m → term p i ≡ term′ p i) → sumsOf d m term ≡ sumsOf d m term′
 unfolding sumsOf summed
-sums-same d m term term′ e = tab-same d _ _ (λ i w. turns-same m _ _ _ (λ p u. rw (e p i u)))
+sums-same d m term term′ e = tab-same d _ _ (λ i w. ap word (turns-same m _ _ _ (λ p u. rw (e p i u))))

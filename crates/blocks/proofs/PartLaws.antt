@@ -10,6 +10,7 @@ use lib.Ieee.{Float, binary32, mul}
 use Rattle.lists.specs.Chunks.{tab, part}
 use Rattle.lists.proofs.Part.{room, part-length, part-part}
 use Rattle.lists.proofs.Tab.{tab-same}
+use Rattle.numbers.specs.Word.{word}
 use Rattle.shapes.specs.Shape.{cellBytes, scaleWords}
 use Rattle.rows.specs.Calls.{buffers}
 use Rattle.rows.proofs.FitLaws.{RowsFit, fits-facts, facts-fit}
@@ -53,11 +54,11 @@ module _ (format d m : ℕ) (cells scales : List ℕ) (h : Rows format d m (leng
 
 module _ (format : ℕ) (query : List Float) (x : Float) (cells scales : List ℕ) where
   -- the score of row i
-  abbrev pub scoreAt : ℕ → Float
+  abbrev pub scoreAt : ℕ → ℕ
   scoreAt i =
       let d = length query in
       let b = buffers cells scales in
-      mul binary32 (rowDot format query (cellsOf format d b i) (scalesOf format d b i)) x
+      word (mul binary32 (rowDot format query (cellsOf format d b i) (scalesOf format d b i)) x)
 
   -- the scores of the part are those of rows p, p + 1, ..
   pub part-scores : (p n : ℕ) {k r v : ℕ} {c w : List ℕ} → r ≡ cellBytes format (length query) → v ≡ scaleWords format (length query)

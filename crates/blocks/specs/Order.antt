@@ -7,7 +7,7 @@ use lib.Dec.{eqb, ltb}
 use lib.ListN.{length, getD}
 use lib.Ieee.{Float, nan, binary32, add, mul}
 use Rattle.lists.specs.Chunks.{tab, turns, part}
-use Rattle.numbers.specs.Word.{float}
+use Rattle.numbers.specs.Word.{float, word}
 use Rattle.numbers.specs.Code.{less8}
 use Rattle.groups.specs.Group.{codeAt}
 use Rattle.rows.specs.Row.{f32At}
@@ -63,13 +63,13 @@ rowDot format query cells scales = cond (eqb format 0) (f32Dot query cells) (int
 unfoldable pub rowTerm : ℕ → Float → List ℕ → List ℕ → ℕ → Float
 rowTerm format weight cells scales i = cond (eqb format 0) (f32Term weight cells i) (int4Term weight cells scales i)
 
--- m scores: the dot of each position times the given scale
-unfoldable pub scoresOf : ℕ → (ℕ → Float) → Float → List Float
-scoresOf m dot x = tab m (λ p. mul binary32 (dot p) x)
+-- m scores, as words: the dot of each position times the given scale
+unfoldable pub scoresOf : ℕ → (ℕ → Float) → Float → List ℕ
+scoresOf m dot x = tab m (λ p. word (mul binary32 (dot p) x))
 
--- d sums: each from 0.0, its terms added by rising position
-unfoldable pub sumsOf : ℕ → ℕ → (ℕ → ℕ → Float) → List Float
-sumsOf d m term = tab d (λ i. summed m (λ p. term p i))
+-- d sums, as words: each from 0.0, its terms added by rising position
+unfoldable pub sumsOf : ℕ → ℕ → (ℕ → ℕ → Float) → List ℕ
+sumsOf d m term = tab d (λ i. word (summed m (λ p. term p i)))
 
 -- one position's terms added to what is there
 unfoldable pub added : (ℕ → Float) → List Float → List Float

@@ -3,7 +3,6 @@ use Prim.Native.Nat.{ℕ}
 use mathlib.Core.Path.{_≡_}
 use mathlib.Core.List.{List, [], _∷_, _++_, map}
 use lib.ListN.{length, replicate}
-use lib.Ieee.{nan}
 use Rattle.numbers.specs.Word.{float, word, bf16}
 use Rattle.numbers.specs.Scale.{scaleOf}
 use Rattle.numbers.specs.Code.{code8, code4}
@@ -55,12 +54,12 @@ answer (half w) = bf16 w ∷ []
 answer (stored s keys values) = let done = filled s keys values in done .reply ∷ (done .left .lent .cells ++ done .left .lent .scales)
 answer (scored s keys values query x m) =
     let b = filled s keys values .left in
-    let done = headScoresOf (b .rec) (b .lent) 0 0 (map float query) (float x) (replicate m nan) in
-    done .reply ∷ map word (done .left)
+    let done = headScoresOf (b .rec) (b .lent) 0 0 (map float query) (float x) (replicate m 0xa5a5_a5a5) in
+    done .reply ∷ done .left
 answer (weighed s keys values weights) =
     let b = filled s keys values .left in
-    let done = headSumsOf (b .rec) (b .lent) 0 0 (map float weights) (replicate (headSize s) nan) in
-    done .reply ∷ map word (done .left)
+    let done = headSumsOf (b .rec) (b .lent) 0 0 (map float weights) (replicate (headSize s) 0xa5a5_a5a5) in
+    done .reply ∷ done .left
 
 -- example n of the paper
 pub data Example : Type 0 where

@@ -119,12 +119,12 @@ module _ {s : Shape} {l side h given m a b e f : ℕ} (cells scales : List ℕ) 
   scales-there p u = rw (k .size) (block-row scales-in scales (q .scales-from) (q .scales-to) p u)
 
   -- what the block's calls leave
-  left-by : (new old : List Float) {n : ℕ} {y : List Float}
+  left-by : (new old : List ℕ) {n : ℕ} {y : List ℕ}
       → record { reply = n; left = y } ≡ outcome (blockRefusals (s .format) given m (length (block .cells)) (length (block .scales))) new old → y ≡ new
-  left-by new old o = ap (λ (x : Outcome (List Float)). x .left) (o ∙ outcome-done _ new old accepted)
+  left-by new old o = ap (λ (x : Outcome (List ℕ)). x .left) (o ∙ outcome-done _ new old accepted)
 
 module _ {s : Shape} {l h a b e f : ℕ} (cells scales : List ℕ) where
-  pub scores-there : (query : List Float) (x : Float) (out : List Float) {n : ℕ} {y : List Float}
+  pub scores-there : (query : List Float) (x : Float) (out : List ℕ) {n : ℕ} {y : List ℕ}
       → InHead s l h (length query) (length out) (length cells) (length scales) → Lent s l 0 h (length out) a b e f
       → record { reply = n; left = y } ≡ blockScoresOf (s .format) query x (buffers (part a (b - a) cells) (part e (f - e) scales)) out
       → y ≡ scoresAt s l h query x (length out) (buffers cells scales)
@@ -133,7 +133,7 @@ module _ {s : Shape} {l h a b e f : ℕ} (cells scales : List ℕ) where
       left-by cells scales k q _ out o
       ∙ scores-same (length out) _ _ x (λ p u. rw (cells-there cells scales k q p u, scales-there cells scales k q p u))
 
-  pub sums-there : (weights out : List Float) {n : ℕ} {y : List Float}
+  pub sums-there : (weights : List Float) (out : List ℕ) {n : ℕ} {y : List ℕ}
       → InHead s l h (length out) (length weights) (length cells) (length scales) → Lent s l 1 h (length weights) a b e f
       → record { reply = n; left = y } ≡ blockSumsOf (s .format) weights (buffers (part a (b - a) cells) (part e (f - e) scales)) out
       → y ≡ sumsAt s l h weights (buffers cells scales)

@@ -8,8 +8,8 @@ use Rattle.store.specs.declared.Record.{Record}
 use Rattle.heads.specs.Calls.{headScoresOf, headSumsOf}
 
 module _ (r : Record) (b : Buffers) (l h : ℕ) where
-  pub scores-determined : (query : List Float) (x : Float) (out : List Float) → One (headScoresOf r b l h query x out)
+  pub scores-determined : (query : List Float) (x : Float) (out : List ℕ) → One (headScoresOf r b l h query x out)
   scores-determined query x out = coincide (headScoresOf r b l h query x out)
 
-  pub sums-determined : (weights out : List Float) → One (headSumsOf r b l h weights out)
+  pub sums-determined : (weights : List Float) (out : List ℕ) → One (headSumsOf r b l h weights out)
   sums-determined weights out = coincide (headSumsOf r b l h weights out)

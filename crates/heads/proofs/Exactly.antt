@@ -16,14 +16,14 @@ use Rattle.heads.specs.Calls.{headRefusals, headScoresOf, headSumsOf}
 
 module _ (r : Record) (b : Buffers) (l h : ℕ) where
   -- scores: 1, 2, 3, 4, 5, 6, 7, 8
-  pub scores-exactly : (query : List Float) (x : Float) (out : List Float) (n : ℕ)
+  pub scores-exactly : (query : List Float) (x : Float) (out : List ℕ) (n : ℕ)
       → (headScoresOf r b l h query x out .reply ≡ n)
       ↔ Applies n (storeRefusals r b ++ headRefusals (r .shape) l (lengthOf r l) h (length query) (length out))
   unfolding headScoresOf outcome
   scores-exactly query x out n = exactly 0 n _ refl
 
   -- sums: the same, with the output in the place of the query and the weights in that of the scores
-  pub sums-exactly : (weights out : List Float) (n : ℕ)
+  pub sums-exactly : (weights : List Float) (out : List ℕ) (n : ℕ)
       → (headSumsOf r b l h weights out .reply ≡ n)
       ↔ Applies n (storeRefusals r b ++ headRefusals (r .shape) l (lengthOf r l) h (length out) (length weights))
   unfolding headSumsOf outcome

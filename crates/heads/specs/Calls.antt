@@ -16,14 +16,14 @@ use Rattle.store.specs.Calls.{storeRefusals}
 use Rattle.blocks.specs.Order.{hasScores, rowDot, rowTerm, scoresOf, sumsOf}
 
 -- the first m positions of head h in layer l, scored on the keys' side under a query and a given scale x
-unfoldable pub scoresAt : Shape → ℕ → ℕ → List Float → Float → ℕ → Buffers → List Float
+unfoldable pub scoresAt : Shape → ℕ → ℕ → List Float → Float → ℕ → Buffers → List ℕ
 scoresAt s l h query x m b = scoresOf m (λ p. rowDot (s .format) query (cellsAt s l 0 h p b) (scalesAt s l 0 h p b)) x
 
 -- and summed on the values' side under weights, one for each position
 abbrev pub termAt : Shape → ℕ → ℕ → List Float → Buffers → ℕ → ℕ → Float
 termAt s l h weights b p = rowTerm (s .format) (getD weights p nan) (cellsAt s l 1 h p b) (scalesAt s l 1 h p b)
 
-unfoldable pub sumsAt : Shape → ℕ → ℕ → List Float → Buffers → List Float
+unfoldable pub sumsAt : Shape → ℕ → ℕ → List Float → Buffers → List ℕ
 sumsAt s l h weights b = sumsOf (headSize s) (length weights) (termAt s l h weights b)
 
 -- the refusals past those of the store, where a layer has `held` positions: `given` numbers of a query or of an output, m scores or weights
@@ -37,12 +37,11 @@ headRefusals s l held h given m =
     ∷ []
 
 -- each call
-unfoldable pub headScoresOf : Record → Buffers → ℕ → ℕ → List Float → Float → List Float → Outcome (List Float)
+unfoldable pub headScoresOf : Record → Buffers → ℕ → ℕ → List Float → Float → List ℕ → Outcome (List ℕ)
 headScoresOf r b l h query x out =
     outcome (storeRefusals r b ++ headRefusals (r .shape) l (lengthOf r l) h (length query) (length out))
-    (scoresAt (r .shape) l h query x (length out) b)
-    out
+    (scoresAt (r .shape) l h query x (length out) b) out
 
-unfoldable pub headSumsOf : Record → Buffers → ℕ → ℕ → List Float → List Float → Outcome (List Float)
+unfoldable pub headSumsOf : Record → Buffers → ℕ → ℕ → List Float → List ℕ → Outcome (List ℕ)
 headSumsOf r b l h weights out =
     outcome (storeRefusals r b ++ headRefusals (r .shape) l (lengthOf r l) h (length out) (length weights)) (sumsAt (r .shape) l h weights b) out

@@ -32,7 +32,7 @@ pub fn scores(
     head: u32,
     query: &[f32],
     scale: f32,
-    out: &mut [f32],
+    out: &mut [u32],
 ) -> Reply
     ensures { λ r.
         ⌜
@@ -63,7 +63,7 @@ pub fn sums(
     layer: u32,
     head: u32,
     weights: &[f32],
-    out: &mut [f32],
+    out: &mut [u32],
 ) -> Reply
     ensures { λ r.
         ⌜
@@ -135,7 +135,7 @@ fn scores_in(
     scale: f32,
     cells: &[u8],
     scales: &[u32],
-    out: &mut [f32],
+    out: &mut [u32],
 )
     requires { ⌜ InHead shape layer head (length (now query)) (length (now out)) (length (now cells)) (length (now scales)) ⌝ }
     ensures { λ _.
@@ -162,7 +162,7 @@ fn sums_in(
     weights: &[f32],
     cells: &[u8],
     scales: &[u32],
-    out: &mut [f32],
+    out: &mut [u32],
 )
     requires { ⌜ InHead shape layer head (length (now out)) (length (now weights)) (length (now cells)) (length (now scales)) ⌝ }
     ensures { λ _.

@@ -203,7 +203,7 @@ fn count(line: &[u8], kind: u32, rec: &[u32; 134]) {
 }
 
 fn read(line: &[u8], rec: &[u32; 134], cells: &[u8], scales: &[u32]) {
-    let mut out = [0xDEADu32; 256];
+    let mut out = [0xFF80_DEADu32; 256];
     read_into(line, rec, cells, scales, &mut out);
 }
 
@@ -260,8 +260,7 @@ fn compute_first(
     given: &[f32; 256],
     n: u32,
 ) {
-    let dirt = numbers::words::word_to_f32(0xDEAD);
-    let mut out = [dirt; 256];
+    let mut out = [0xFF80_DEADu32; 256];
     compute_into(line, kind, rec, cells, scales, given, n, &mut out);
 }
 
@@ -273,13 +272,13 @@ fn compute_into(
     scales: &[u32],
     given: &[f32],
     n: u32,
-    out: &mut [f32],
+    out: &mut [u32],
 ) {
     let e = smaller(n, given.len());
     let m = smaller(word(line, places_at(kind)), out.len());
     let reply = computed(line, kind, rec, cells, scales, &given[0..e], &mut out[0..m]);
     show::reply(reply);
-    show::floats(&out[0..m]);
+    show::numbers(&out[0..m]);
     show::line_end();
 }
 
@@ -290,7 +289,7 @@ fn computed(
     cells: &[u8],
     scales: &[u32],
     given: &[f32],
-    out: &mut [f32],
+    out: &mut [u32],
 ) -> u32 {
     let layer = word(line, 1);
     let head = word(line, 2);

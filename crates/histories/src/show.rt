@@ -18,11 +18,6 @@ pub(crate) fn numbers(words: &[u32]) {
     word_fields(words);
 }
 
-pub(crate) fn floats(numbers: &[f32]) {
-    io::write_all(STDOUT_FILENO, b" numbers");
-    float_fields(numbers);
-}
-
 pub(crate) fn line_end() {
     text(b"\n");
 }
@@ -87,14 +82,6 @@ fn word_fields(words: &[u32]) {
     }
 }
 
-fn float_fields(numbers: &[f32]) {
-    let mut i = 0;
-    while i < numbers.len() {
-        float_field(numbers[i]);
-        i += 1;
-    }
-}
-
 fn byte_fields(bytes: &[u8]) {
     let mut i = 0;
     while i < bytes.len() {
@@ -106,10 +93,6 @@ fn byte_fields(bytes: &[u8]) {
 pub(crate) fn decimal(n: u32) {
     io::write_all(STDOUT_FILENO, b" ");
     io::print_decimal(STDOUT_FILENO, n as u64);
-}
-
-fn float_field(x: f32) {
-    field(numbers::words::f32_to_word(x), 8);
 }
 
 fn byte_field(b: u8) {

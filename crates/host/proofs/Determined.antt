@@ -83,10 +83,10 @@ module _ (r : Record) where
   pub kv-read-row : (b : Buffers) (l side h p : ℕ) (out : List ℕ) → OneTold (readOf r b l side h p out)
   kv-read-row b l side h p out = one-told (readOf r b l side h p out)
 
-  pub kv-scores : (b : Buffers) (l h : ℕ) (query : List Float) (x : Float) (out : List _) → OneTold (headScoresOf r b l h query x out)
+  pub kv-scores : (b : Buffers) (l h : ℕ) (query : List Float) (x : Float) (out : List ℕ) → OneTold (headScoresOf r b l h query x out)
   kv-scores b l h query x out = one-told (headScoresOf r b l h query x out)
 
-  pub kv-sums : (b : Buffers) (l h : ℕ) (weights : List Float) (out : List _) → OneTold (headSumsOf r b l h weights out)
+  pub kv-sums : (b : Buffers) (l h : ℕ) (weights : List Float) (out : List ℕ) → OneTold (headSumsOf r b l h weights out)
   kv-sums b l h weights out = one-told (headSumsOf r b l h weights out)
 
 -- the two calls on a group

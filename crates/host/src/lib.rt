@@ -275,7 +275,7 @@ pub extern "C" fn kv_scores(
     head: u32,
     query: &[f32],
     scale: f32,
-    out: &mut [f32],
+    out: &mut [u32],
 ) -> u32
     ensures { λ r.
         ⌜
@@ -304,7 +304,7 @@ pub extern "C" fn kv_sums(
     layer: u32,
     head: u32,
     weights: &[f32],
-    out: &mut [f32],
+    out: &mut [u32],
 ) -> u32
     ensures { λ r.
         ⌜

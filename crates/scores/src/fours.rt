@@ -1,13 +1,14 @@
 // The scores of four rows at once: a running sum for each, in the order of its own row.
 use crate::rest::number_at;
 use crate::words::four_int4;
+use numbers::words::f32_to_word;
 ghost use mathlib.Core.Path.{_≡_};
 ghost use mathlib.Core.List.{[], _∷_};
 ghost use Prim.Native.Nat.{_+_, _*_, _≤_};
 ghost use lib.ListN.{length};
 ghost use lib.Ieee.{binary32, add, mul};
 ghost use Rattle.lists.specs.Chunks.{part};
-ghost use Rattle.numbers.specs.Word.{float};
+ghost use Rattle.numbers.specs.Word.{float, word};
 ghost use Rattle.rows.specs.Row.{f32At};
 ghost use Rattle.rows.specs.Calls.{buffers};
 ghost use Rattle.blocks.specs.Order.{f32Dot};
@@ -33,7 +34,7 @@ pub(crate) fn score_four(
     requires { ⌜ Rows format (length (now query)) 4 (length (now cells)) (length (now scales)) ⌝ }
     ensures { λ r.
         ⌜
-        r .s0 ∷ r .s1 ∷ r .s2 ∷ r .s3 ∷ []
+        word (r .s0) ∷ word (r .s1) ∷ word (r .s2) ∷ word (r .s3) ∷ []
         ≡ blockScores format (now (query .entry)) scale (buffers (now (cells .entry)) (now (scales .entry))) 4
         ⌝ }
 {
@@ -53,15 +54,15 @@ pub(crate) fn score_four(
     four_int4(query, scale, r0, r1, r2, r3, w0, w1, w2, w3)
 }
 
-// Stores four scores.
-pub(crate) fn put_four(s: Four, out: &mut [f32])
+// Stores the words of four scores.
+pub(crate) fn put_four(s: Four, out: &mut [u32])
     requires { ⌜ length (now out) ≡ 4 ⌝ }
-    ensures { λ _. ⌜ now (out .exit) ≡ s .s0 ∷ s .s1 ∷ s .s2 ∷ s .s3 ∷ [] ⌝ }
+    ensures { λ _. ⌜ now (out .exit) ≡ word (s .s0) ∷ word (s .s1) ∷ word (s .s2) ∷ word (s .s3) ∷ [] ⌝ }
 {
-    out[0] = s.s0;
-    out[1] = s.s1;
-    out[2] = s.s2;
-    out[3] = s.s3;
+    out[0] = f32_to_word(s.s0);
+    out[1] = f32_to_word(s.s1);
+    out[2] = f32_to_word(s.s2);
+    out[3] = f32_to_word(s.s3);
 }
 
 // The cells of `n` rows from row `p` on, where a row has `c`.

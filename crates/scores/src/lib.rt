@@ -29,7 +29,7 @@ pub fn block_scores(
     scale: f32,
     cells: &[u8],
     scales: &[u32],
-    out: &mut [f32],
+    out: &mut [u32],
 ) -> Reply
     ensures { λ r.
         ⌜
@@ -45,7 +45,7 @@ pub fn block_scores(
 }
 
 // Four rows at a time, and what is left row by row.
-fn score_rows(format: u32, query: &[f32], scale: f32, cells: &[u8], scales: &[u32], out: &mut [f32])
+fn score_rows(format: u32, query: &[f32], scale: f32, cells: &[u8], scales: &[u32], out: &mut [u32])
     requires { ⌜ Rows format (length (now query)) (length (now out)) (length (now cells)) (length (now scales)) ⌝ }
     ensures { λ _.
         ⌜
@@ -74,7 +74,7 @@ fn score_fours(
     scale: f32,
     cells: &[u8],
     scales: &[u32],
-    out: &mut [f32],
+    out: &mut [u32],
 ) -> usize
     requires { ⌜ Rows format (length (now query)) (length (now out)) (length (now cells)) (length (now scales)) ⌝ }
     ensures within { λ r. ⌜ r ≤ length (now (out .entry)) ⌝ }

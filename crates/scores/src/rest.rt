@@ -1,5 +1,6 @@
 // The scores of rows one by one, in each format that has scores.
 use numbers::codes::less_8;
+use numbers::words::f32_to_word;
 use numbers::words::word_to_f32;
 use rows::word_of;
 use shapes::cell_bytes;
@@ -21,7 +22,7 @@ pub(crate) fn score_rest(
     scale: f32,
     cells: &[u8],
     scales: &[u32],
-    out: &mut [f32],
+    out: &mut [u32],
 )
     requires { ⌜ Rows format (length (now query)) (length (now out)) (length (now cells)) (length (now scales)) ⌝ }
     ensures { λ _.
@@ -36,7 +37,8 @@ pub(crate) fn score_rest(
     while p < out.len() {
         let a = p * c;
         let b = p * w;
-        out[p] = score_row(format, query, scale, &cells[a..a + c], &scales[b..b + w]);
+        let score = score_row(format, query, scale, &cells[a..a + c], &scales[b..b + w]);
+        out[p] = f32_to_word(score);
         p += 1;
     }
 }

@@ -5,13 +5,15 @@ pub(crate) mod stored;
 
 use blocks::block_reply;
 use fours::add_f32_rows;
+use numbers::words::f32_to_word;
 use replies::Reply;
 use replies::number;
 use rest::add_rest;
 ghost use mathlib.Core.Path.{_≡_};
+ghost use mathlib.Core.List.{map};
 ghost use lib.ListN.{length, replicate};
 ghost use Rattle.lists.specs.Chunks.{turns};
-ghost use Rattle.numbers.specs.Word.{float};
+ghost use Rattle.numbers.specs.Word.{float, word};
 ghost use Rattle.replies.specs.Outcome.{answered};
 ghost use Rattle.rows.specs.Calls.{buffers};
 ghost use Rattle.blocks.specs.Order.{added};
@@ -24,7 +26,7 @@ pub fn block_sums(
     weights: &[f32],
     cells: &[u8],
     scales: &[u32],
-    out: &mut [f32],
+    out: &mut [u32],
 ) -> Reply
     ensures { λ r.
         ⌜
@@ -39,7 +41,8 @@ pub fn block_sums(
     reply
 }
 
-fn sum_rows(format: u32, weights: &[f32], cells: &[u8], scales: &[u32], out: &mut [f32])
+// The sums grow in an array of floats, and leave as words.
+fn sum_rows(format: u32, weights: &[f32], cells: &[u8], scales: &[u32], out: &mut [u32])
     requires { ⌜ Rows format (length (now out)) (length (now weights)) (length (now cells)) (length (now scales)) ⌝ }
     ensures { λ _.
         ⌜
@@ -47,16 +50,25 @@ fn sum_rows(format: u32, weights: &[f32], cells: &[u8], scales: &[u32], out: &mu
         ≡ blockSums format (now (weights .entry)) (buffers (now (cells .entry)) (now (scales .entry))) (length (now (out .entry)))
         ⌝ }
 {
-    zero_numbers(out);
-    add_rows(format, weights, cells, scales, out);
+    let d = out.len();
+    let mut sums = no_sums();
+    add_rows(format, weights, cells, scales, &mut sums[0..d]);
+    put_sums(&sums[0..d], out);
 }
 
-fn zero_numbers(out: &mut [f32])
-    ensures { λ _. ⌜ now (out .exit) ≡ replicate (length (now (out .entry))) (float 0) ⌝ }
+fn no_sums() -> [f32; 256]
+    ensures { λ r. ⌜ r ≡ replicate 256 (float 0) ⌝ }
+{
+    [0.0; 256]
+}
+
+fn put_sums(sums: &[f32], out: &mut [u32])
+    requires { ⌜ length (now out) ≡ length (now sums) ⌝ }
+    ensures { λ _. ⌜ now (out .exit) ≡ map word (now (sums .entry)) ⌝ }
 {
     let mut i = 0;
     while i < out.len() {
-        out[i] = 0.0;
+        out[i] = f32_to_word(sums[i]);
         i += 1;
     }
 }

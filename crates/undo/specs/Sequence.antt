@@ -16,9 +16,9 @@ pub data Reading : Type 0 where
   -- a layer, a side, a head, a position
   readRow : ℕ → ℕ → ℕ → ℕ → List ℕ → Reading
   -- a layer, a head, the query, the given scale
-  scores : ℕ → ℕ → List Float → Float → List Float → Reading
+  scores : ℕ → ℕ → List Float → Float → List ℕ → Reading
   -- a layer, a head, the weights
-  sums : ℕ → ℕ → List Float → List Float → Reading
+  sums : ℕ → ℕ → List Float → List ℕ → Reading
 
 -- any call on an open store
 pub data Call : Type 0 where

@@ -35,7 +35,7 @@ pub record SameAnswers (t u : Store) : Type 0 where
   pub same-length : (l : ℕ) → cachedLenOf (t .rec) l ≡ cachedLenOf (u .rec) l
   pub same-bytes : memoryBytesOf (t .rec) ≡ memoryBytesOf (u .rec)
   pub same-row : (l side h p : ℕ) (out : List ℕ) → readOf (t .rec) (t .lent) l side h p out ≡ readOf (u .rec) (u .lent) l side h p out
-  pub same-scores : (l h : ℕ) (query : List Float) (x : Float) (out : List Float)
+  pub same-scores : (l h : ℕ) (query : List Float) (x : Float) (out : List ℕ)
       → headScoresOf (t .rec) (t .lent) l h query x out ≡ headScoresOf (u .rec) (u .lent) l h query x out
-  pub same-sums : (l h : ℕ) (weights out : List Float)
+  pub same-sums : (l h : ℕ) (weights : List Float) (out : List ℕ)
       → headSumsOf (t .rec) (t .lent) l h weights out ≡ headSumsOf (u .rec) (u .lent) l h weights out

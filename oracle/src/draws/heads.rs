@@ -5,7 +5,7 @@ use crate::dice::Dice;
 use crate::record::Record;
 use crate::replies::Head;
 use crate::rust_heads::DECODE_ATTN_SMALL_CONTEXT_THRESHOLD;
-use crate::summands;
+use crate::{summands, words};
 
 /// What a call on a head names and lends: a query or sums of so many numbers, scores or weights of so many positions.
 struct Ask {
@@ -47,23 +47,23 @@ fn limited(ask: Ask) -> Ask {
     }
 }
 
-/// A query for scores into a dirty output.
+/// A query for scores into an output of NaN.
 fn scores(ask: &Ask, dice: &mut Dice) -> Call {
     Call::Scores {
         head: ask.head,
         query: summands::run(ask.row, dice),
         scale: summands::factor(dice),
-        output: dice.words(ask.positions + GUARD),
+        output: words::nans(ask.positions + GUARD, dice),
         lent: ask.positions,
     }
 }
 
-/// Weights for sums into a dirty output.
+/// Weights for sums into an output of NaN.
 fn sums(ask: &Ask, dice: &mut Dice) -> Call {
     Call::Sums {
         head: ask.head,
         weights: summands::run(ask.positions, dice),
-        output: dice.words(ask.row + GUARD),
+        output: words::nans(ask.row + GUARD, dice),
         lent: ask.row,
     }
 }

@@ -1,9 +1,10 @@
-//! The instructions of the bars' kernels, counted by valgrind or by an emulator: no clock, and the same on a busy machine.
-use super::bars::{BARS, SIZE};
+//! The instructions of the bars' kernels, and of scores and sums of few positions, counted by valgrind or by an emulator: no
+//! clock, and the same on a busy machine.
+use super::bars::{Bar, BARS, SIZE};
 use super::callgrind;
-use super::kernel::{Kernel, Way};
+use super::kernel::{Call, Kernel, Way};
 use super::progress::Progress;
-use super::stores::Inputs;
+use super::stores::{Inputs, Size};
 use super::table::{line, number, whole, Column};
 use std::collections::HashMap;
 use std::path::Path;
@@ -13,19 +14,59 @@ use std::{env, fs, io};
 /// The command under which the oracle runs where it is counted.
 pub const COUNTING: &str = "counting";
 
+/// The few positions of which scores and sums are counted besides: the cost of a call shows where it has little to do.
+const FEW: [usize; 2] = [16, 1];
+
 /// Instructions by the name of what they were counted for.
 type Counts = HashMap<String, u64>;
 
-/// Runs every kernel once each way and has its instructions counted.
+/// What is counted: a kernel on a layer.
+#[derive(Clone, Copy)]
+struct Row {
+    kernel: Kernel,
+    size: Size,
+}
+
+impl Row {
+    /// The kernel, and how many positions the layer has where they are few.
+    fn name(&self) -> String {
+        match self.size {
+            SIZE => self.kernel.name(),
+            Size { positions, .. } => format!("{} at {positions}", self.kernel.name()),
+        }
+    }
+
+    /// The two ways in which it is run, in their order.
+    fn ways(&self) -> [Way; 2] {
+        [Way::Ours, self.kernel.other()]
+    }
+
+    /// What its instructions are counted as.
+    fn label(&self, way: Way) -> String {
+        format!("{}, {way:?}", self.name())
+    }
+}
+
+/// Every row: the kernels of the bars, and those of them that take few positions too, on layers that have few.
+fn rows() -> Vec<Row> {
+    let at = |size| BARS.iter().map(move |Bar { kernel, .. }| Row { kernel: *kernel, size });
+    let few = FEW.into_iter().flat_map(|positions| at(Size { positions, ..SIZE }));
+    at(SIZE).chain(few.filter(|row| matches!(row.kernel.call, Call::Scores | Call::Sums))).collect()
+}
+
+/// Runs every row once each way and has its instructions counted.
 pub fn run_counted() -> Result<(), String> {
-    let inputs = Inputs::new(SIZE);
-    let mut progress = Progress::of(BARS.len());
-    for kernel in BARS.iter().map(|bar| bar.kernel) {
-        progress.begin(&kernel.name());
-        let mut bench = kernel.compared(&inputs)?;
-        for way in ways(&kernel) {
-            bench.prepare(way);
-            callgrind::counted(&label(&kernel, way), || bench.run(way));
+    let rows = rows();
+    let mut progress = Progress::of(rows.len());
+    for of_size in rows.chunk_by(|one, next| one.size == next.size) {
+        let inputs = Inputs::new(of_size[0].size);
+        for row in of_size {
+            progress.begin(&row.name());
+            let mut bench = row.kernel.compared(&inputs)?;
+            for way in row.ways() {
+                bench.prepare(way);
+                callgrind::counted(&row.label(way), || bench.run(way));
+            }
         }
     }
     Ok(())
@@ -89,20 +130,10 @@ fn counts_in(folder: &Path) -> io::Result<Counts> {
     Ok(counts)
 }
 
-/// The two ways in which a kernel is run, in their order.
-fn ways(kernel: &Kernel) -> [Way; 2] {
-    [Way::Ours, kernel.other()]
-}
-
 /// What is counted, in the order in which it is run.
 fn labels() -> impl Iterator<Item = String> {
-    let kernels = BARS.iter().map(|bar| bar.kernel);
-    kernels.flat_map(|kernel| ways(&kernel).map(|way| label(&kernel, way)))
-}
-
-/// What the instructions of a kernel are counted as.
-fn label(kernel: &Kernel, way: Way) -> String {
-    format!("{}, {way:?}", kernel.name())
+    let rows = rows().into_iter();
+    rows.flat_map(|row| row.ways().map(|way| row.label(way)))
 }
 
 /// The columns of the table.
@@ -116,29 +147,29 @@ const COLUMNS: [Column; 4] = [
 /// Prints instructions for one number, and their ratio.
 fn print_table(counts: &Counts) -> Result<(), String> {
     println!(
-        "Instructions for one number: {} positions, H {}, D {}, against the lifted Rust, truncate and",
+        "Instructions for one number: {} positions, or as many as a row says, H {}, D {}, against the lifted Rust, truncate and",
         whole(SIZE.positions),
         SIZE.heads,
         SIZE.head_size
     );
     println!("open against clearing as many bytes. A byte that one instruction clears in its turn counts as one.");
     println!("{}", line(&COLUMNS, &["", "ours", "other", "ratio"]));
-    for kernel in BARS.iter().map(|bar| bar.kernel) {
-        println!("{}", line(&COLUMNS, &cells(&kernel, counts)?));
+    for row in rows() {
+        println!("{}", line(&COLUMNS, &cells(&row, counts)?));
     }
     Ok(())
 }
 
-/// A kernel's line of the table.
-fn cells(kernel: &Kernel, counts: &Counts) -> Result<[String; 4], String> {
+/// A row's line of the table.
+fn cells(row: &Row, counts: &Counts) -> Result<[String; 4], String> {
     let each = |way| {
-        let label = label(kernel, way);
+        let label = row.label(way);
         let count = counts.get(&label).ok_or(format!("{label}: not counted"))?;
-        Ok::<f64, String>(*count as f64 / kernel.numbers(&SIZE) as f64)
+        Ok::<f64, String>(*count as f64 / row.kernel.numbers(&row.size) as f64)
     };
-    let (ours, other) = (each(Way::Ours)?, each(kernel.other())?);
+    let (ours, other) = (each(Way::Ours)?, each(row.kernel.other())?);
     Ok([
-        kernel.name(),
+        row.name(),
         number(ours),
         number(other),
         number(ours / other),
@@ -151,28 +182,39 @@ mod tests {
 
     #[test]
     fn a_line_has_both_counts_for_a_number_and_their_ratio() {
-        let kernel = BARS[0].kernel;
-        let numbers = kernel.numbers(&SIZE) as u64;
-        let mut counts = Counts::new();
-        counts.insert(label(&kernel, Way::Ours), 3 * numbers);
-        assert!(cells(&kernel, &counts).is_err());
-        counts.insert(label(&kernel, kernel.other()), 4 * numbers);
-        let wanted = ["scores F32", "3.000", "4.000", "0.750"];
-        assert_eq!(cells(&kernel, &counts).unwrap(), wanted);
+        let rows = rows();
+        for (row, name) in [(rows[0], "scores F32"), (rows[BARS.len()], "scores F32 at 16")] {
+            let numbers = row.kernel.numbers(&row.size) as u64;
+            let mut counts = Counts::new();
+            counts.insert(row.label(Way::Ours), 3 * numbers);
+            assert!(cells(&row, &counts).is_err());
+            counts.insert(row.label(row.kernel.other()), 4 * numbers);
+            let wanted = [name, "3.000", "4.000", "0.750"];
+            assert_eq!(cells(&row, &counts).unwrap(), wanted);
+        }
+    }
+
+    #[test]
+    fn few_positions_are_those_of_scores_and_sums() {
+        let names: Vec<String> = rows().iter().map(Row::name).collect();
+        let few = names.iter().filter(|name| name.contains(" at "));
+        assert_eq!(few.count(), 4 * FEW.len());
+        assert!(names.contains(&"sums INT4 at 1".to_string()));
     }
 
     #[test]
     fn lines_are_counts_in_the_order_of_the_runs() {
+        let rows = rows();
         let lines: String = (30..)
-            .take(2 * BARS.len())
+            .take(2 * rows.len())
             .map(|n| format!("{n}\n"))
             .collect();
         let counts = in_order(&lines);
-        let (first, second) = (BARS[0].kernel, BARS[1].kernel);
-        assert_eq!(counts[&label(&first, Way::Ours)], 30);
-        assert_eq!(counts[&label(&first, first.other())], 31);
-        assert_eq!(counts[&label(&second, Way::Ours)], 32);
-        assert_eq!(counts.len(), 2 * BARS.len());
+        let (first, second) = (rows[0], rows[1]);
+        assert_eq!(counts[&first.label(Way::Ours)], 30);
+        assert_eq!(counts[&first.label(first.kernel.other())], 31);
+        assert_eq!(counts[&second.label(Way::Ours)], 32);
+        assert_eq!(counts.len(), 2 * rows.len());
         for wrong in [
             &lines[3..],
             &format!("{lines}7\n"),
@@ -187,6 +229,6 @@ mod tests {
         let mut labels: Vec<String> = labels().collect();
         labels.sort();
         labels.dedup();
-        assert_eq!(labels.len(), 2 * BARS.len());
+        assert_eq!(labels.len(), 2 * rows().len());
     }
 }

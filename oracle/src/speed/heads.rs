@@ -32,11 +32,10 @@ impl Heads {
         }
     }
 
-    /// Whether the answers are the Rust's, any NaN for any NaN.
+    /// Whether the answers are the words of the Rust's.
     fn agree(&self) -> bool {
-        let ours = self.answer.iter().copied().map(f32::from_bits);
         let rust = self.rust_answer.iter().copied();
-        ours.map(word_of).eq(rust.map(word_of))
+        self.answer.iter().copied().eq(rust.map(word_of))
     }
 
     /// Reads the cells and scale words of one side, keys or values, head after head.

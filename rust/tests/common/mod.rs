@@ -72,7 +72,7 @@ pub fn bits(numbers: &[f32]) -> Vec<u32> {
     numbers.iter().map(|x| x.to_bits()).collect()
 }
 
-/// The bits of numbers that arithmetic made, a NaN counting as any NaN: all are the word that reading writes for one.
+/// The bits that a store gives numbers that arithmetic made: a NaN's are the one word 7FC00000.
 pub fn made(numbers: &[f32]) -> Vec<u32> {
     let made = |x: &f32| {
         if x.is_nan() {

@@ -38,7 +38,7 @@ impl Fresh {
         holdings.record.0.fill(dirt);
         holdings.cells.fill(dirt as u8);
         holdings.scales.fill(dirt);
-        self.store.play_bits(&Call::Open(self.shape)).reply
+        self.store.play(&Call::Open(self.shape)).reply
     }
 
     /// Appends each layer's survivors in one call, as long as the replies are taken; whether all were.

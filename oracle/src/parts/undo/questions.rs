@@ -35,7 +35,7 @@ impl Trial {
     /// Whether a row that is read has the numbers of the survivors.
     fn reads_as_appended(&mut self, place: Place, call: &Call, tally: &mut Tally) -> bool {
         let site = self.site(call);
-        let row = match (call, self.played.play_bits(call).told) {
+        let row = match (call, self.played.play(call).told) {
             (Call::ReadRow { lent, .. }, Told::Output(output)) => Some(output[..*lent].to_vec()),
             _ => None,
         };
@@ -61,8 +61,8 @@ impl Trial {
     /// Asks both stores the same; whether they give the reply that is due and the same bits.
     fn ask(&mut self, call: &Call, due: u32, tally: &mut Tally) -> bool {
         let site = self.site(call);
-        let wanted = self.fresh.store.play_bits(call);
-        let ours = self.played.play_bits(call);
+        let wanted = self.fresh.store.play(call);
+        let ours = self.played.play(call);
         let (wanted, ours) = of_replies(due, wanted.reply)
             .or_else(|| of_answers(wanted, ours))
             .unwrap_or(Spot::NONE);

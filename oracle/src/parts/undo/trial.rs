@@ -69,7 +69,7 @@ impl Trial {
 
     /// Plays a call, which the survivors take in if it is accepted; the reply.
     pub fn play(&mut self, call: &Call) -> u32 {
-        let reply = self.played.play_bits(call).reply;
+        let reply = self.played.play(call).reply;
         if reply == DONE {
             self.survivors.accept(call);
         }

@@ -90,6 +90,9 @@ score-row-requires c κs =
     (c .before .score-row-arg .given .2 ∙ lent-count _ refl (k .before .before .before .cell-bytes .ensures))
     (c .score-row-arg2 .given .2 ∙ lent-count _ refl (k .before .before .scale-words .ensures))
 
+f32-to-word-requires : tie.Need-f32-to-word-requires Inv-loop μ-loop
+f32-to-word-requires c κs = search needs
+
 mul-out : tie.Need-mul-out Inv-loop μ-loop
 mul-out c = search needs
 
@@ -104,11 +107,12 @@ loop-less c = search needs
 
 loop-again : tie.Need-loop-again Inv-loop μ-loop
 loop-again c =
-    let k = c .before .before .before in
+    let scored = c .before in
+    let k = scored .before .before .before in
     let start = k .before .before .before .before .before .before .before .before .args in
     let row = row-lent _ (k .before .loop .p) (start .cells .now) (k .before .before .before .cell-bytes .ensures) refl in
     let words = row-lent _ (k .before .loop .p) (start .scales .now) (k .before .before .scale-words .ensures) refl in
-    (omega arith, tab-set _ _ _ (omega arith) (k .before .loop .inv .1) (rw (c .score-row .ensures, row, words)), search needs)
+    (omega arith, tab-set _ _ _ (omega arith) (k .before .loop .inv .1) (c .f32-to-word .ensures ∙ rw (scored .score-row .ensures, row, words)), search needs)
 
 same-length : tie.Need-same-length Inv-loop μ-loop
 same-length c = search needs
@@ -140,6 +144,7 @@ score-rest-spec =
     part-score-row-start-2
     part-score-row-end-2
     score-row-requires
+    f32-to-word-requires
     mul-out
     slice-write-out
     add-p

@@ -1,0 +1,74 @@
+-- The words passed are those of the sums passed, and what is left is as it was.
+use mathlib.Core.Path.{_≡_, refl, sym, _∙_}
+use mathlib.Core.List.{_++_}
+use Prim.Native.Nat.{_-_, _≤_}
+use native.Mathlib.Omega.{arith}
+use borrow.Author.Needs.{needs}
+use lib.ListN.{length, getD, drop}
+use lib.Ieee.{nan}
+use Rattle.lists.specs.Chunks.{tab}
+use Rattle.lists.proofs.Tab.{tab-set, tab-done}
+use Rattle.numbers.specs.Word.{word}
+use Rattle.blocks.proofs.OrderLaws.{words-tab}
+use Rattle.sums.proofs.put_sums.Statement.{statement}
+use Rattle.sums.proofs.put_sums.Tie as tie
+
+abbrev Inv-loop : tie.InvT-loop
+Inv-loop sums out₀ i₀ out i = (out ≡ tab i (λ j. word (getD sums j nan)) ++ drop i out₀) × (i ≤ length out₀) × (length out ≡ length out₀)
+
+abbrev μ-loop : tie.MeasureT-loop
+μ-loop sums out₀ i₀ out i = length out₀ - i
+
+loop-holds : tie.Need-loop-holds Inv-loop μ-loop
+unfolding tab
+loop-holds c = (refl, omega arith, refl)
+
+mul-f32-to-word : tie.Need-mul-f32-to-word Inv-loop μ-loop
+mul-f32-to-word c = search needs
+
+shared-slice-read-f32-to-word : tie.Need-shared-slice-read-f32-to-word Inv-loop μ-loop
+shared-slice-read-f32-to-word c = search needs
+
+f32-to-word-requires : tie.Need-f32-to-word-requires Inv-loop μ-loop
+f32-to-word-requires c κs = search needs
+
+mul-out : tie.Need-mul-out Inv-loop μ-loop
+mul-out c = search needs
+
+slice-write-out : tie.Need-slice-write-out Inv-loop μ-loop
+slice-write-out c = search needs
+
+add-i : tie.Need-add-i Inv-loop μ-loop
+add-i c = search needs
+
+loop-less : tie.Need-loop-less Inv-loop μ-loop
+loop-less c = search needs
+
+loop-again : tie.Need-loop-again Inv-loop μ-loop
+loop-again c = (tab-set _ _ _ (omega arith) (c .before .before .before .loop .inv .0) (c .f32-to-word .ensures), omega arith, search needs)
+
+same-length : tie.Need-same-length Inv-loop μ-loop
+same-length c = search needs
+
+returns : tie.Need-returns Inv-loop μ-loop
+returns c =
+    let start = c .before .before .before .before in
+    tab-done _ _ _ (c .before .loop .inv .0) (omega arith) (start .pre) ∙ sym (words-tab (start .args .sums .now))
+
+pub put-sums-spec : {M : Type 1} → statement M
+put-sums-spec =
+    tie.close
+    (tie.spec
+    Inv-loop
+    μ-loop
+    loop-holds
+    mul-f32-to-word
+    shared-slice-read-f32-to-word
+    f32-to-word-requires
+    mul-out
+    slice-write-out
+    add-i
+    loop-less
+    loop-again
+    same-length
+    returns)
