@@ -1,11 +1,9 @@
-// Plays each call file that a line of standard input names, as kvcalls does, then replays it as a whole and tells where
-// that ended and what the last store reports.
+// Plays each call file that a line of standard input names, as kvcalls does, then tells where it was left and what the
+// last store reports.
 use libc::STDOUT_FILENO;
-use replay::Replayed;
-use replay::replay;
-use replay::report;
-use transcript::line_text;
-use transcript::play;
+use replay::Played;
+use replay::play;
+use replay::report_line;
 
 fn main() {
     let mut space = io::large_buffer();
@@ -38,21 +36,21 @@ fn name(path: &[u8]) {
 }
 
 fn start(file: &[u8]) {
-    let mut cells = [0u8; 32_768];
-    let mut scales = [0u32; 2_048];
-    play(file, &mut cells, &mut scales);
+    let mut out = [0u8; 4_194_304];
+    let played = play(file, &mut out);
+    let n = played.count;
+    io::write_all(STDOUT_FILENO, &out[..n]);
     if file.len() <= 16_384 {
-        tell(replay(file, &mut cells, &mut scales));
+        tell(played);
     }
 }
 
-// Where a replay ended, and a report of its store.
-fn tell(replayed: Replayed) {
+// Where the file was left, and a report of its store.
+fn tell(played: Played) {
     io::write_all(STDOUT_FILENO, b"replay ");
-    io::print_decimal(STDOUT_FILENO, replayed.place as u64);
+    io::print_decimal(STDOUT_FILENO, played.place as u64);
     io::write_all(STDOUT_FILENO, b" ");
-    let record = replayed.after;
     let mut out = [0u8; 2048];
-    let n = line_text(report(record), record, &mut out);
-    io::write_all(STDOUT_FILENO, &out[0..n]);
+    let n = report_line(played.after, &mut out, 0);
+    io::write_all(STDOUT_FILENO, &out[..n]);
 }

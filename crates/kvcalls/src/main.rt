@@ -1,4 +1,6 @@
-// Plays the call file on standard input on a store in its own memory, and prints a line for each record.
+// Plays the call file on standard input, and prints a line for each record.
+use libc::STDOUT_FILENO;
+
 fn main() {
     let mut space = io::large_buffer();
     let n = io::read_full(0, &mut space);
@@ -6,7 +8,8 @@ fn main() {
 }
 
 fn start(file: &[u8]) {
-    let mut cells = [0u8; 32_768];
-    let mut scales = [0u32; 2_048];
-    transcript::play(file, &mut cells, &mut scales);
+    let mut out = [0u8; 4_194_304];
+    let played = replay::play(file, &mut out);
+    let n = played.count;
+    io::write_all(STDOUT_FILENO, &out[..n]);
 }

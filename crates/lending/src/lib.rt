@@ -10,26 +10,8 @@ use store::truncate_to;
 ghost use mathlib.Core.Path.{_≡_};
 ghost use Prim.Native.Nat.{_≤_, min};
 ghost use Rattle.rows.specs.Calls.{buffers};
-ghost use Rattle.store.specs.Record.{newRecord};
-ghost use Rattle.store.specs.Calls.{noShape, store, left};
+ghost use Rattle.store.specs.Calls.{store, left};
 ghost use Rattle.lending.specs.Calls.{openIn, appendIn, truncateIn};
-
-// The record before any store is open: no layers.
-pub fn not_open() -> Record
-    ensures { λ r. ⌜ r ≡ newRecord noShape ⌝ }
-{
-    Record {
-        shape: Shape {
-            format: 0,
-            layers: 0,
-            heads: 0,
-            head_size: 0,
-            capacity: 0,
-        },
-        lens: [0; 128],
-        seq_len: 0,
-    }
-}
 
 // Makes an empty store in what the shape is lent; refused, the store that was there stays.
 pub fn open_in(record: Record, cells: &mut [u8], scales: &mut [u32], shape: Shape) -> Changed

@@ -1,17 +1,17 @@
--- Whatever a step may answer and leave under its statement, it answers and leaves one thing: its line, its place, its record and both buffers.
--- A line says which line it is, and the record and the buffers stand beside it.
+-- Whatever a file being played may answer and leave under its statement, it answers and leaves one thing: place, count, record and every lent byte.
+-- A report's line says which line it is.
 use mathlib.Core.Path.{_≡_, refl, sym, ap, _∙_}
 use mathlib.Core.List.{List}
 use Prim.Native.Nat.{ℕ}
 use native.Mathlib.Omega.{arith}
 use Rattle.replies.proofs.Coincide.{same-reply}
 use Rattle.store.specs.declared.Record.{Record}
+use Rattle.texts.specs.Text.{Laid}
 use Rattle.replay.specs.declared.Line.{Line}
 use Rattle.replay.specs.declared.Line.the-variants.{Answer, Counts, Stop, Nothing}
-use Rattle.replay.specs.declared.Replayed.{Replayed}
-use Rattle.replay.specs.declared.Stepped.{Stepped}
-use Rattle.replay.specs.Replay.{walked}
-use Rattle.replay.specs.Step.{Printed, answer, report, badAt, nothing, Walk, Step, printed, stepped}
+use Rattle.replay.specs.declared.Played.{Played}
+use Rattle.replay.specs.Step.{Printed, answer, report, badAt, nothing, Walk, printed}
+use Rattle.replay.specs.Transcript.{Play, played}
 
 -- the kind of a line, and its own number
 abbrev kind : Printed → ℕ
@@ -44,27 +44,28 @@ same-line Nothing (Counts y) r r′ e = absurd (omega (arith, ap kind e))
 same-line Nothing (Stop y) r r′ e = absurd (omega (arith, ap kind e))
 same-line Nothing Nothing r r′ e = refl
 
--- a step
-pub step-determined : (o : Step) (a a′ : Stepped) (c c′ w w′ : List ℕ) → stepped a c w ≡ o → stepped a′ c′ w′ ≡ o → (a ≡ a′) × (c ≡ c′) × (w ≡ w′)
-step-determined o a a′ c c′ w w′ e e′ =
-    let q = e ∙ sym e′ in
-    let l = same-line (a .line) (a′ .line) (a .after) (a′ .after) (ap (λ (s : Step). s .line) q) in
-    let n = ap (λ (s : Step). s .after .place) q in
-    let r = ap (λ (s : Step). s .after .held .rec) q in (
-      ap (λ (x : Line). record { line = x; next = a .next; after = a .after }) l
-          ∙ ap (λ (x : ℕ). record { line = a′ .line; next = x; after = a .after }) n
-          ∙ ap (λ (x : Record). record { line = a′ .line; next = a′ .next; after = x }) r,
-      ap (λ (s : Step). s .after .held .lent .cells) q,
-      ap (λ (s : Step). s .after .held .lent .scales) q,
+same-played : (a b : Played) → a .place ≡ b .place → a .count ≡ b .count → a .after ≡ b .after → a ≡ b
+same-played a b p n r =
+    ap (λ (x : ℕ). record { place = x; count = a .count; after = a .after }) p
+    ∙ ap (λ (x : ℕ). record { place = b .place; count = x; after = a .after }) n
+    ∙ ap (λ (x : Record). record { place = b .place; count = b .count; after = x }) r
+
+-- a file played in lent room
+pub play-in-determined : (o : Play) (a a′ : Played) (c c′ w w′ t t′ : List ℕ) → played a c w t ≡ o → played a′ c′ w′ t′ ≡ o
+    → (a ≡ a′) × (c ≡ c′) × (w ≡ w′) × (t ≡ t′)
+play-in-determined o a a′ c c′ w w′ t t′ e e′ =
+    let q = e ∙ sym e′ in (
+      same-played a a′ (ap (λ (p : Play). p .last .place) q) (ap (λ (p : Play). p .text .count) q) (ap (λ (p : Play). p .last .held .rec) q),
+      ap (λ (p : Play). p .last .held .lent .cells) q,
+      ap (λ (p : Play). p .last .held .lent .scales) q,
+      ap (λ (p : Play). p .text .out) q,
     )
 
--- a replay
-pub replay-determined : (o : Walk) (a a′ : Replayed) (c c′ w w′ : List ℕ) → walked a c w ≡ o → walked a′ c′ w′ ≡ o → (a ≡ a′) × (c ≡ c′) × (w ≡ w′)
-replay-determined o a a′ c c′ w w′ e e′ =
+-- and in the room at hand, which nobody sees afterwards
+pub play-determined : (l : Laid) (w : Walk) (a a′ : Played) (t t′ : List ℕ)
+    → _≡_ {A = Laid} (record { count = a .count; out = t }) l → (a .place ≡ w .place) × (a .after ≡ w .held .rec)
+    → _≡_ {A = Laid} (record { count = a′ .count; out = t′ }) l → (a′ .place ≡ w .place) × (a′ .after ≡ w .held .rec)
+    → (a ≡ a′) × (t ≡ t′)
+play-determined l w a a′ t t′ e (p, r) e′ (p′, r′) =
     let q = e ∙ sym e′ in
-    let n = ap (λ (v : Walk). v .place) q in
-    let r = ap (λ (v : Walk). v .held .rec) q in (
-      ap (λ (x : ℕ). record { place = x; after = a .after }) n ∙ ap (λ (x : Record). record { place = a′ .place; after = x }) r,
-      ap (λ (v : Walk). v .held .lent .cells) q,
-      ap (λ (v : Walk). v .held .lent .scales) q,
-    )
+    (same-played a a′ (p ∙ sym p′) (ap (λ (x : Laid). x .count) q) (r ∙ sym r′), ap (λ (x : Laid). x .out) q)

@@ -1,3 +1,5 @@
 pub mod Determined
+pub mod LineLaws
+pub mod PlayLaws
 pub mod StepLaws
 pub mod WalkLaws

@@ -13,8 +13,13 @@ use Rattle.callfile.specs.declared.Entry.{Entry}
 use Rattle.callfile.specs.Format.{words, entryAt, sizeOf, placeAfter, wordsRead}
 use Rattle.callfile.proofs.FormatLaws.{words-length, words-read}
 use Rattle.lending.specs.Calls.{appendIn}
+use Rattle.texts.specs.Place.{over}
+use Rattle.texts.specs.Text.{Laid, laidAt}
+use Rattle.texts.proofs.LaidLaws.{laid-there}
 use Rattle.replay.specs.declared.Told.{Told}
-use Rattle.replay.specs.Step.{Printed, Effect, answers, effectOf, walk, stepOf, effect, told}
+use Rattle.replay.specs.Step.{Printed, Effect, answers, effectOf, walk, Step, stepOf, effect, told}
+use Rattle.replay.specs.Transcript.{textOf, Play}
+use Rattle.replay.specs.Turn.{turned}
 
 -- a side of which the first n words, y, were read: its length, and its numbers
 module _ (file : List ℕ) (at n : ℕ) (side y : List ℕ) (sized : 512 ≡ length side) (b : n ≤ 512) (f : at + 4 * n ≤ length file)
@@ -51,3 +56,15 @@ pub step-done : (file : List ℕ) (at : ℕ) (held : Store) {e : Entry} {line : 
     → record { line = line; after = walk next after } ≡ stepOf file (walk at held)
 unfolding stepOf
 step-done file at held {e} p q n = rw (n, ← p) (ap (λ (x : Effect). record { line = x .line; after = walk (at + sizeOf e) (x .held) }) q)
+
+-- a turn, by the step and by the line that is laid
+pub turn-done : (file : List ℕ) (p : Play) {e : Entry} {line : Printed} {after : Store} {next : ℕ} {text : Laid} → e ≡ entryAt file (p .last .place)
+    → record { line = line; held = after } ≡ effectOf file (p .last .place) e (p .last .held) → next ≡ p .last .place + sizeOf e
+    → text ≡ laidAt (p .text .count) (textOf line) (p .text .out) → p .text .count + 2048 ≤ length (p .text .out)
+    → record { last = walk next after; text = text } ≡ turned file p
+turn-done file p {line = line} {after} {next} x q n t h =
+    let at = p .text .count in
+    let out = p .text .out in
+    let s = step-done file (p .last .place) (p .last .held) x q (rw x at n) in
+    ap (λ (l : Laid). record { last = walk next after; text = l }) (t ∙ laid-there at (textOf line) out h)
+    ∙ ap (λ (s : Step). record { last = s .after; text = record { count = at + length (textOf (s .line)); out = over at (textOf (s .line)) out } }) s

@@ -12,11 +12,10 @@ use lib.ListN.{length}
 use borrow.Author.Tests.{leb-true, leb-false}
 use Rattle.lists.specs.Chunks.{turns}
 use Rattle.rows.specs.Calls.{Buffers}
-use Rattle.store.specs.Calls.{Store}
 use Rattle.callfile.specs.declared.Entry.the-variants.{End, Bad}
 use Rattle.callfile.specs.Format.{entryAt, placeAfter}
 use Rattle.callfile.proofs.FormatLaws.{entry-in-file, stays}
-use Rattle.replay.specs.Step.{Printed, Walk, walk, Step, stepOf}
+use Rattle.replay.specs.Step.{Walk, stepOf}
 use Rattle.replay.specs.Replay.{start, replayOf}
 
 module _ (file : List ℕ) where
@@ -45,7 +44,7 @@ module _ (file : List ℕ) where
   same-place w (inl e) = rw (e, add-zero)
   same-place w (inr e) = rw (e, add-zero)
 
-  pub stays-there : (w : Walk) → placeAfter file (w .place) ≤ w .place → stepOf file w .after ≡ w
+  stays-there : (w : Walk) → placeAfter file (w .place) ≤ w .place → stepOf file w .after ≡ w
   stays-there w h = same-place w (stays file (w .place) (omega arith))
 
   module _ {room : Buffers} {w : Walk} (r : Reached room w) where
@@ -54,36 +53,25 @@ module _ (file : List ℕ) where
     still e zero = rw zero-add (sym (r .taken))
     still e (suc n) = rw (suc-add, turn-more, still e n) e
 
-    pub ended : placeAfter file (w .place) ≤ w .place → w ≡ replayOf file room
+    ended : placeAfter file (w .place) ≤ w .place → w ≡ replayOf file room
     unfolding replayOf
     ended h =
         let m : (length file - r .steps) + r .steps ≡ length file = omega (arith, r .early, r .inside) in
         sym (rw m at (still (stays-there w h) (length file - r .steps)))
 
-    -- at the end of the file
-    pub ended-there : length file ≤ w .place → w ≡ replayOf file room
-    ended-there h = ended (omega (arith, entry-in-file file (w .place)))
+    -- a step that stays ends the walk, and one that moves is a turn more
+    pub stopped : stepOf file w .after .place ≤ w .place → stepOf file w .after ≡ replayOf file room
+    unfolding stepOf
+    stopped h = stays-there w h ∙ ended h
 
-    module _ {line : Printed} {next : ℕ} {held : Store} (e : record { line = line; after = walk next held } ≡ stepOf file w) where
-      moved-to : next ≡ placeAfter file (w .place)
-      unfolding stepOf
-      moved-to = ap (λ (s : Step). s .after .place) e
-
-      -- a step that stays ends the walk, and one that moves is a turn more
-      pub stopped : next ≤ w .place → walk (w .place) held ≡ replayOf file room
-      stopped h =
-          let k : placeAfter file (w .place) ≤ w .place = rw (← moved-to) h in
-          let q : held ≡ w .held = ap (λ (s : Step). s .after .held) e ∙ ap (λ (v : Walk). v .held) (stays-there w k) in
-          rw q (ended k)
-
-      pub again : w .place < next → Reached room (walk next held)
-      unfolding turns
-      again h = record {
-        steps = suc (r .steps);
-        early = omega (arith, r .early);
-        inside = omega (arith, moved-to, entry-in-file file (w .place), r .inside);
-        taken = ap (λ (s : Step). s .after) e ∙ ap (λ (v : Walk). stepOf file v .after) (r .taken);
-      }
+    pub again : w .place < stepOf file w .after .place → Reached room (stepOf file w .after)
+    unfolding turns stepOf
+    again h = record {
+      steps = suc (r .steps);
+      early = omega (arith, r .early);
+      inside = omega (arith, entry-in-file file (w .place), r .inside);
+      taken = ap (λ (v : Walk). stepOf file v .after) (r .taken);
+    }
 
   -- after n steps the walk stands still, or at place n or further on
   module _ (room : Buffers) where

@@ -1,2 +1,4 @@
 pub mod Step
 pub mod Replay
+pub mod Transcript
+pub mod Turn

@@ -3,11 +3,10 @@ use Prim.Native.Nat.{ℕ}
 use mathlib.Core.List.{List}
 use lib.ListN.{length}
 use Rattle.lists.specs.Chunks.{turns}
-use Rattle.rows.specs.Calls.{Buffers, buffers}
+use Rattle.rows.specs.Calls.{Buffers}
 use Rattle.store.specs.Record.{newRecord}
 use Rattle.store.specs.Calls.{noShape, store}
 use Rattle.replay.specs.Step.{Walk, walk, stepOf}
-use Rattle.replay.specs.declared.Replayed.{Replayed}
 
 -- at the first byte, with no store open
 abbrev pub start : Buffers → Walk
@@ -16,6 +15,3 @@ start room = walk 0 (store (newRecord noShape) room)
 -- as many steps as the file has bytes: each record has some, and at the end or at a bad one a step stays where it is
 unfoldable pub replayOf : List ℕ → Buffers → Walk
 replayOf file room = turns (length file) (λ _ w. stepOf file w .after) (start room)
-
-abbrev pub walked : Replayed → List ℕ → List ℕ → Walk
-walked a cells scales = walk (a .place) (store (a .after) (buffers cells scales))

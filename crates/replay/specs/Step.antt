@@ -18,7 +18,6 @@ use Rattle.lending.specs.Calls.{openIn, appendIn, truncateIn}
 use Rattle.replay.specs.declared.Line.{Line}
 use Rattle.replay.specs.declared.Line.the-variants.{Answer, Counts, Stop, Nothing}
 use Rattle.replay.specs.declared.Told.{Told}
-use Rattle.replay.specs.declared.Stepped.{Stepped}
 
 -- a line of output: ok for 0 and no N for any other N; seq, bytes and a length per layer; bad at a place; none at the end
 pub data Printed : Type 0 where
@@ -87,7 +86,3 @@ effect a cells scales = record { line = printed (a .line) (a .after); held = sto
 
 abbrev pub told : Changed → Told
 told a = record { line = Answer (a .reply); after = a .after }
-
-abbrev pub stepped : Stepped → List ℕ → List ℕ → Step
-stepped a cells scales =
-    record { line = printed (a .line) (a .after); after = walk (a .next) (store (a .after) (buffers cells scales)) }

@@ -1,18 +1,22 @@
-// A call file played on a store in the room at hand, one record at a time or as a whole: the paper's section Call file.
+// A call file played on a store in the room at hand, with everything that it prints: the paper's section Call file.
+mod lines;
+mod walk;
+
 use callfile::Entry;
 use callfile::read_words;
-use callfile::reader::pass_from;
-use callfile::reader::read_from;
 use lending::append_in;
-use lending::not_open;
 use lending::open_in;
 use lending::truncate_in;
+use lines::line_text;
 use replies::Reply;
 use replies::number;
 use store::Changed;
 use store::Record;
 use store::advance_seq_len;
 use store::memory_bytes;
+use store::not_open;
+use texts::bad_text;
+use walk::walk_file;
 ghost use mathlib.Core.Path.{_≡_};
 ghost use Prim.Native.Nat.{_+_, _*_, _≤_};
 ghost use lib.ListN.{length, take};
@@ -20,8 +24,9 @@ ghost use Rattle.rows.specs.Calls.{buffers};
 ghost use Rattle.store.specs.Calls.{store, left};
 ghost use Rattle.callfile.specs.Format.{words, entryAt, keysAt, valuesAt};
 ghost use Rattle.lending.specs.Calls.{appendIn};
-ghost use Rattle.replay.specs.Step.{printed, reportOf, effectOf, walk, stepOf, effect, told, stepped};
-ghost use Rattle.replay.specs.Replay.{replayOf, walked};
+ghost use Rattle.texts.specs.Text.{laid, laidAt};
+ghost use Rattle.replay.specs.Step.{printed, reportOf, effectOf, effect, told};
+ghost use Rattle.replay.specs.Transcript.{textOf, atHand, transcript, playOf, playIn, played};
 
 // A line of output.
 pub enum Line {
@@ -41,67 +46,62 @@ pub struct Told {
     pub after: Record,
 }
 
-// A line, the place after the record that had it printed, and the record of the store afterwards.
-pub struct Stepped {
-    pub line: Line,
-    pub next: usize,
-    pub after: Record,
-}
-
-// The place where a file was left, and the record of the last store.
-pub struct Replayed {
+// How far a file is played: its place, the bytes printed so far, and the record of the last store.
+pub struct Played {
     pub place: usize,
+    pub count: usize,
     pub after: Record,
 }
 
-// Plays what stands at a place.
-pub fn step(file: &[u8], at: usize, record: Record, cells: &mut [u8], scales: &mut [u32]) -> Stepped
-    ensures { λ r.
-        ⌜
-        stepped r (now (cells .exit)) (now (scales .exit))
-        ≡ stepOf (now (file .entry)) (walk at (store «record» (buffers (now (cells .entry)) (now (scales .entry)))))
-        ⌝ }
+// Plays a call file in the room that the paper gives the program, and lays all that it prints into `out`.
+pub fn play(file: &[u8], out: &mut [u8; 4_194_304]) -> Played
+    ensures text { λ r. ⌜ record { count = r .count; out = now (out .exit) } ≡ laid (transcript (now (file .entry))) (now (out .entry)) ⌝ }
+    ensures last { λ r. ⌜ (r .place ≡ playOf (now (file .entry)) atHand .place) × (r .after ≡ playOf (now (file .entry)) atHand .held .rec) ⌝ }
 {
-    let entry = read_from(file, at);
-    let told = tell(file, at, entry, record, cells, scales);
-    let line = told.line;
-    let after = told.after;
-    Stepped {
-        line,
-        next: pass_from(file, at),
-        after,
-    }
+    let mut cells = no_cells();
+    let mut scales = no_scales();
+    play_in(file, &mut cells, &mut scales, out)
 }
 
-// Plays a whole file, up to its end or to what is no record.
-pub fn replay(file: &[u8], cells: &mut [u8], scales: &mut [u32]) -> Replayed
+// Plays a call file in lent room, and lays all that it prints into `out`.
+pub fn play_in(
+    file: &[u8],
+    cells: &mut [u8],
+    scales: &mut [u32],
+    out: &mut [u8; 4_194_304],
+) -> Played
     ensures { λ r.
         ⌜
-        walked r (now (cells .exit)) (now (scales .exit))
-        ≡ replayOf (now (file .entry)) (buffers (now (cells .entry)) (now (scales .entry)))
+        played r (now (cells .exit)) (now (scales .exit)) (now (out .exit))
+        ≡ playIn (now (file .entry)) (buffers (now (cells .entry)) (now (scales .entry))) (now (out .entry))
         ⌝ }
 {
-    let mut at = 0;
-    let mut record = not_open();
-    while at < file.len() {
-        let s = step(file, at, record, cells, scales);
-        record = s.after;
-        if s.next <= at {
-            return Replayed {
-                place: at,
-                after: record,
-            };
-        }
-        at = s.next;
+    if 16_384 < file.len() {
+        let count = bad_text(16_384, out, 0);
+        return Played {
+            place: 16_384,
+            count,
+            after: not_open(),
+        };
     }
-    Replayed {
-        place: at,
-        after: record,
-    }
+    walk_file(file, cells, scales, out)
+}
+
+// The cell bytes and the scale words at hand.
+fn no_cells() -> [u8; 32_768]
+    ensures { λ r. ⌜ r ≡ atHand .cells ⌝ }
+{
+    [0; 32_768]
+}
+
+fn no_scales() -> [u32; 2_048]
+    ensures { λ r. ⌜ r ≡ atHand .scales ⌝ }
+{
+    [0; 2_048]
 }
 
 // Does what the entry at a place says.
-fn tell(
+pub(crate) fn tell(
     file: &[u8],
     at: usize,
     entry: Entry,
@@ -194,6 +194,13 @@ fn answer(changed: Changed) -> Told
         line: Line::Answer { reply },
         after,
     }
+}
+
+// Lays a report of a store, or why there is none, at an offset, and answers the offset after it.
+pub fn report_line(record: Record, out: &mut [u8], at: usize) -> usize
+    ensures { λ r. ⌜ record { count = r; out = now (out .exit) } ≡ laidAt at (textOf (reportOf «record»)) (now (out .entry)) ⌝ }
+{
+    line_text(report(record), record, out, at)
 }
 
 // A report of a store, or why there is none.

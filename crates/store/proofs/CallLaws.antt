@@ -15,7 +15,7 @@ use Rattle.rows.specs.Calls.{Buffers, buffers}
 use Rattle.cells.specs.Calls.{positions, room, hasLayer, hasHead, appendRefusals, removeRefusals, overfull, appendRowsOf, removeRowsOf, readRowOf}
 use Rattle.store.specs.declared.Record.{Record}
 use Rattle.store.specs.Record.{lengthOf, newRecord, withLength, Grows}
-use Rattle.store.specs.Calls.{store, empty, noShape, storeRefusals, openOf, appendOf, truncateOf, readOf}
+use Rattle.store.specs.Calls.{store, empty, storeRefusals, openOf, appendOf, truncateOf, readOf}
 use Rattle.store.proofs.StoreLaws.{sound-store, sound-limits, room-passed, room-sizes, held-in}
 
 -- opening: room that is not refused has the lengths of the zeros
@@ -27,7 +27,7 @@ open-done s b {cells = cells} {scales = scales} h z e c d =
     let w = room-sizes s b h in
     let c′ : cells ≡ replicate (cellTotal s) 0 = c ∙ rw (w .0) in
     let d′ : scales ≡ replicate (scaleTotal s) 0 = d ∙ rw (w .1) in
-    rw (z, e, c′, d′) (sym (outcome-done (room s b) (empty s) (store (newRecord noShape) b) h))
+    rw (z, e, c′, d′) (sym (outcome-done (room s b) (empty s) _ h))
 
 module _ (r : Record) (b : Buffers) (good : lowest (storeRefusals r b) ≡ 0) where
   -- past the store's own refusals and past the room's the others are the same

@@ -19,7 +19,7 @@ ghost use Rattle.shapes.specs.Shape.{within, roomRefusals};
 ghost use Rattle.rows.specs.Calls.{buffers};
 ghost use Rattle.cells.specs.Calls.{positions};
 ghost use Rattle.store.specs.Record.{lengthOf, mostOf, goodLengths, newRecord, withLength, positionBytes, byteCount, Grows};
-ghost use Rattle.store.specs.Calls.{left, changed, counted, lengthsRefusal, recordRefusals};
+ghost use Rattle.store.specs.Calls.{noShape, left, changed, counted, lengthsRefusal, recordRefusals};
 ghost use Rattle.store.specs.Calls.{openOf, appendOf, truncateOf, advanceOf, cachedLenOf, memoryBytesOf, readOf};
 
 // A shape, the positions of each layer, and the sequence number that the host counts.
@@ -47,16 +47,9 @@ pub fn open(shape: Shape, cells: &mut [u8], scales: &mut [u32]) -> Changed
 {
     let reply = room_reply(shape, cells.len(), scales.len());
     if number(reply) != 0 {
-        let none = Shape {
-            format: 0,
-            layers: 0,
-            heads: 0,
-            head_size: 0,
-            capacity: 0,
-        };
         return Changed {
             reply,
-            after: new_record(none),
+            after: not_open(),
         };
     }
     clear_all(cells, scales);
@@ -64,6 +57,19 @@ pub fn open(shape: Shape, cells: &mut [u8], scales: &mut [u32]) -> Changed
         reply,
         after: new_record(shape),
     }
+}
+
+// The record where no store is open: no layers.
+pub fn not_open() -> Record
+    ensures { λ r. ⌜ r ≡ newRecord noShape ⌝ }
+{
+    new_record(Shape {
+        format: 0,
+        layers: 0,
+        heads: 0,
+        head_size: 0,
+        capacity: 0,
+    })
 }
 
 // Appends keys and values of n positions to a layer. The Rust's `append`.

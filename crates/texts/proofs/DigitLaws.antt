@@ -58,12 +58,20 @@ decimal-one n h = spelled-one 19 n h
 pub decimal-last : (n : ℕ) → 10 ≤ n → n < 10 ^ 20 → decimal n ≡ decimal (n / 10) ++ ((48 + n % 10) ∷ [])
 decimal-last n h w = rw (spelled-last 19 n h, spelled-more 18 (n / 10) (tenth n 19 w))
 
--- for a number of 64 bits, its tenth and a number of 32 bits
-pub decimal-length : (n : ℕ) → n < 2 ^ 64 → length (decimal n) ≤ 20
-decimal-length n h = spelled-length 20 19 n (omega arith)
+-- the digits of any number, of the tenth of one of 64 bits, of one of 32 bits, and of a layer's length
+digits-most : (k n : ℕ) → length (spelled k n) ≤ k
+unfolding spelled
+digits-most zero n = omega arith
+digits-most (suc k) n = longer k k n (λ s. digits-most k (n / 10))
+
+pub decimal-length : (n : ℕ) → length (decimal n) ≤ 20
+decimal-length n = digits-most 20 n
 
 pub tenth-length : (n : ℕ) → n < 2 ^ 64 → length (decimal (n / 10)) ≤ 19
 tenth-length n h = spelled-length 20 18 (n / 10) (omega arith)
 
 pub word-length : (n : ℕ) → n < 2 ^ 32 → length (decimal n) ≤ 10
 word-length n h = spelled-length 20 9 n (omega arith)
+
+pub small-length : (n : ℕ) → n ≤ 4096 → length (decimal n) ≤ 4
+small-length n h = spelled-length 20 3 n (omega arith)

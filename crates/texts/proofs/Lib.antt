@@ -1,3 +1,5 @@
 pub mod DigitLaws
+pub mod LaidLaws
 pub mod LengthLaws
 pub mod PlaceLaws
+pub mod TextLaws

@@ -2,13 +2,12 @@
 use mathlib.Core.Path.{_≡_, refl, ap, _∙_}
 use mathlib.Core.List.{List, [], _∷_, _++_, append-assoc}
 use Prim.Native.Nat.{ℕ, _+_, _≤_, _<_}
-use native.Mathlib.Nat.{add-zero, add-assoc, zero-add}
+use native.Mathlib.Nat.{add-zero, add-assoc}
 use native.Mathlib.Numerals.{add-one}
 use native.Mathlib.Omega.{arith}
 use lib.ListN.{length, take, drop, getD, set, length-append, length-drop, take-append-drop}
 use lib.Seq.{length-take-le, take-at, drop-at, drop-drop, take-suc, set-split}
 use Rattle.texts.specs.Place.{over, Placed}
-use Rattle.texts.specs.Text.{Laid, laid}
 
 over-length : (at : ℕ) (t b : List ℕ) → at + length t ≤ length b → length (over at t b) ≡ length b
 unfolding over
@@ -56,11 +55,3 @@ placed-more {at} i t p h w =
     let e : at + (i + 1) ≡ at + i + 1 = omega arith in
     let s : take (i + 1) t ≡ take i t ++ (getD t i 0 ∷ []) = rw add-one (take-suc t i 0 h) in
     rw (e, s) (placed-next (getD t i 0) p w)
-
--- texts put from the start on
-pub placed-on : {end last : ℕ} {t u b m a : List ℕ} → Placed 0 t b end m → Placed end u m last a → Placed 0 (t ++ u) b last a
-placed-on p q = placed-then p q (omega arith)
-
-pub placed-laid : {end : ℕ} {t b a : List ℕ} → Placed 0 t b end a → _≡_ {A = Laid} (record { count = end; out = a }) (laid t b)
-unfolding over
-placed-laid p = rw (p .place, p .out, zero-add)

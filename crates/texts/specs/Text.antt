@@ -2,8 +2,9 @@
 use Prim.Native.Nat.{ℕ, zero, suc, _+_, _/_, _%_}
 use mathlib.Core.Bool.{cond}
 use mathlib.Core.List.{List, [], _∷_, _++_}
-use lib.Dec.{eqb, ltb}
+use lib.Dec.{eqb, ltb, leb}
 use lib.ListN.{length, drop}
+use Rattle.texts.specs.Place.{over}
 
 -- the decimal digits of a number below 10^k, the most significant first, with no zero in front
 unfoldable pub spelled : ℕ → ℕ → List ℕ
@@ -42,3 +43,8 @@ pub record Laid : Type 0 where
 
 abbrev pub laid : List ℕ → List ℕ → Laid
 laid text out = record { count = length text; out = text ++ drop (length text) out }
+
+-- a text at an offset: the offset after it, and the buffer afterwards; nothing where fewer than 2,048 bytes are left, which hold any line
+unfoldable pub laidAt : ℕ → List ℕ → List ℕ → Laid
+laidAt at text out =
+    cond (leb (at + 2048) (length out)) (record { count = at + length text; out = over at text out }) (record { count = at; out = out })

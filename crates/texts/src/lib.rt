@@ -4,43 +4,65 @@ ghost use mathlib.Core.List.{_++_};
 ghost use Prim.Native.Nat.{_+_, _*_, _≤_};
 ghost use lib.ListN.{length, take};
 ghost use Rattle.texts.specs.Place.{Placed};
-ghost use Rattle.texts.specs.Text.{decimal, spaced, answerText, reportText, badText, laid};
+ghost use lib.Dec.{leb};
+ghost use Rattle.texts.specs.Text.{decimal, spaced, answerText, reportText, badText, laidAt};
 
-// `ok` for 0, and `no N` for any other N.
-pub fn answer_text(n: u32, out: &mut [u8; 2048]) -> usize
-    ensures { λ r. ⌜ record { count = r; out = now (out .exit) } ≡ laid (answerText n) (now (out .entry)) ⌝ }
+// Lays `ok` for 0, and `no N` for any other N, at an offset, and answers the offset after it.
+pub fn answer_text(n: u32, out: &mut [u8], at: usize) -> usize
+    ensures { λ r. ⌜ record { count = r; out = now (out .exit) } ≡ laidAt at (answerText n) (now (out .entry)) ⌝ }
 {
-    if n == 0 {
-        return put(b"ok\n", out, 0);
+    if !has_line(out.len(), at) {
+        return at;
     }
-    let end = put_named(b"no ", n as u64, out, 0);
+    if n == 0 {
+        return put(b"ok\n", out, at);
+    }
+    let end = put_named(b"no ", n as u64, out, at);
     put(b"\n", out, end)
 }
 
-// `seq S bytes M len a b ..`, the lengths being the first `layers`.
+// The same with `seq S bytes M len a b ..`, the lengths being the first `layers`.
 pub fn report_text(
     seq: u32,
     bytes: u64,
     lens: &[u32; 128],
     layers: u32,
-    out: &mut [u8; 2048],
+    out: &mut [u8],
+    at: usize,
 ) -> usize
     ensures { λ r.
-        ⌜ record { count = r; out = now (out .exit) } ≡ laid (reportText seq bytes (take layers (now (lens .entry)))) (now (out .entry)) ⌝ }
+        ⌜ record { count = r; out = now (out .exit) } ≡ laidAt at (reportText seq bytes (take layers (now (lens .entry)))) (now (out .entry)) ⌝ }
 {
-    let a = put_named(b"seq ", seq as u64, out, 0);
+    if !has_line(out.len(), at) {
+        return at;
+    }
+    let a = put_named(b"seq ", seq as u64, out, at);
     let b = put_named(b" bytes ", bytes, out, a);
     let c = put(b" len", out, b);
     let d = put_lengths(lens, layers, out, c);
     put(b"\n", out, d)
 }
 
-// `bad at N`.
-pub fn bad_text(at: u64, out: &mut [u8; 2048]) -> usize
-    ensures { λ r. ⌜ record { count = r; out = now (out .exit) } ≡ laid (badText at) (now (out .entry)) ⌝ }
+// The same with `bad at N`.
+pub fn bad_text(n: u64, out: &mut [u8], at: usize) -> usize
+    ensures { λ r. ⌜ record { count = r; out = now (out .exit) } ≡ laidAt at (badText n) (now (out .entry)) ⌝ }
 {
-    let end = put_named(b"bad at ", at, out, 0);
+    if !has_line(out.len(), at) {
+        return at;
+    }
+    let end = put_named(b"bad at ", n, out, at);
     put(b"\n", out, end)
+}
+
+// Whether the 2,048 bytes that any line fits in are left from an offset on.
+fn has_line(size: usize, at: usize) -> bool
+    ensures { λ r. ⌜ r ≡ leb (at + 2048) size ⌝ }
+{
+    if size < 2048 {
+        false
+    } else {
+        at <= size - 2048
+    }
 }
 
 // Puts a text into a buffer at a place, and answers the place after it.

@@ -1,10 +1,20 @@
--- The text lies in the buffer that it was written to.
+-- The report lies in the buffer that it was laid into.
+use mathlib.Core.Path.{sym, _∙_}
+use Prim.Native.Nat.{_≤_}
+use native.Mathlib.Omega.{arith}
+use lib.ListN.{length}
+use lib.Seq.{length-take-le}
 use borrow.Author.Needs.{needs}
-use Rattle.replay.specs.Step.{printed}
-use Rattle.transcript.specs.Play.{textOf}
-use Rattle.transcript.proofs.LaidLaws.{laid-in}
+use Rattle.texts.proofs.LaidLaws.{laid-first, laid-in}
+use Rattle.replay.specs.Step.{reportOf}
+use Rattle.replay.specs.Transcript.{textOf}
 use Rattle.callfiles.proofs.tell.Statement.{statement}
 use Rattle.callfiles.proofs.tell.Tie as tie
+
+in-buffer : (c : tie.After-report-line) → c .report-line .result ≤ length (c .report-line .last .1 .0)
+in-buffer c =
+    let t = textOf (reportOf (c .before .before .before .before .before .before .before .args .played .after)) in
+    laid-in t _ (c .report-line .ensures ∙ laid-first t _ (omega arith))
 
 slice-aggregate-write-all : tie.Need-slice-aggregate-write-all
 slice-aggregate-write-all c = search needs
@@ -21,20 +31,17 @@ slice-aggregate-write-all-2 c = search needs
 write-all-requires-2 : tie.Need-write-all-requires-2
 write-all-requires-2 c κs = search needs
 
-report-requires : tie.Need-report-requires
-report-requires c κs = search needs
+slice-aggregate-report-line : tie.Need-slice-aggregate-report-line
+slice-aggregate-report-line c = search needs
 
-line-text-requires : tie.Need-line-text-requires
-line-text-requires c κs = search needs
+report-line-requires : tie.Need-report-line-requires
+report-line-requires c κs = search needs
 
-sub-write-all : tie.Need-sub-write-all
-sub-write-all c = search needs
+array-share-prefix-out : tie.Need-array-share-prefix-out
+array-share-prefix-out c = in-buffer (c .before)
 
-part-write-all-start : tie.Need-part-write-all-start
-part-write-all-start c = search needs
-
-part-write-all-end : tie.Need-part-write-all-end
-part-write-all-end c = laid-in (textOf (printed (c .before .before .before .report .result) (c .before .before .before .before .before .before .before .before .before .before .args .replayed .after))) _ (c .before .line-text .ensures)
+slice-aggregate-write-all-3 : tie.Need-slice-aggregate-write-all-3
+slice-aggregate-write-all-3 c = sym (length-take-le _ _ (in-buffer (c .before .before)))
 
 write-all-requires-3 : tie.Need-write-all-requires-3
 write-all-requires-3 c κs = search needs
@@ -51,10 +58,9 @@ tell-spec =
     print-decimal-requires
     slice-aggregate-write-all-2
     write-all-requires-2
-    report-requires
-    line-text-requires
-    sub-write-all
-    part-write-all-start
-    part-write-all-end
+    slice-aggregate-report-line
+    report-line-requires
+    array-share-prefix-out
+    slice-aggregate-write-all-3
     write-all-requires-3
     returns)

@@ -14,20 +14,20 @@ room-reply-requires c κs = search needs
 number-requires : tie.Need-number-requires
 number-requires c κs = search needs
 
-new-record-requires : tie.Need-new-record-requires
-new-record-requires c κs = search needs
+not-open-requires : tie.Need-not-open-requires
+not-open-requires c κs = search needs
 
 returns : tie.Need-returns
 unfolding openOf
 returns c =
-    rw (c .new-record .ensures, c .before .before .before .room-reply .ensures)
+    rw (c .not-open .ensures, c .before .before .before .room-reply .ensures)
     (sym (outcome-refused _ _ _ (still-refused (c .before .before .number .ensures) (c .before .before .before .room-reply .ensures) (c .before .if1 .taken))))
 
 clear-all-requires : tie.Need-clear-all-requires
 clear-all-requires c κs = search needs
 
-new-record-requires-2 : tie.Need-new-record-requires-2
-new-record-requires-2 c κs = search needs
+new-record-requires : tie.Need-new-record-requires
+new-record-requires c κs = search needs
 
 same-length : tie.Need-same-length
 same-length c = search needs
@@ -43,7 +43,7 @@ returns-2 c =
     open-done (a .shape) (buffers (a .cells .now) (a .scales .now))
     (still-passed z (c .before .before .before .before .before .before .before .before .before .before .room-reply .ensures) (c .before .before .before .before .before .before .before .before .if1 .left))
     (sym z ∙ c .before .before .before .before .before .before .before .before .if1 .left)
-    (c .new-record2 .ensures)
+    (c .new-record .ensures)
     (cleared .0)
     (cleared .1)
 
@@ -53,10 +53,10 @@ open-spec =
     (tie.spec
     room-reply-requires
     number-requires
-    new-record-requires
+    not-open-requires
     returns
     clear-all-requires
-    new-record-requires-2
+    new-record-requires
     same-length
     same-length-2
     returns-2)

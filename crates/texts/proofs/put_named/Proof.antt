@@ -17,7 +17,7 @@ same-length c = search needs
 
 returns : tie.Need-returns
 returns c =
-    let w = decimal-length (c .before .before .before .before .before .before .before .before .before .before .args .n) (omega arith) in
+    let w = decimal-length (c .before .before .before .before .before .before .before .before .before .before .args .n) in
     (placed-then (c .before .before .before .before .before .before .put .ensures) (c .before .before .put-number .ensures) (omega arith), omega arith)
 
 pub put-named-spec : {M : Type 1} → statement M

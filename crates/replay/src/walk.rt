@@ -1,0 +1,79 @@
+// A call file is walked record by record, up to the end or to what is no record.
+use super::Played;
+use super::lines::line_text;
+use super::tell;
+use callfile::Entry;
+use callfile::reader::read_from;
+use callfile::size_of;
+use store::not_open;
+ghost use mathlib.Core.Path.{_≡_};
+ghost use Prim.Native.Nat.{_+_, _≤_};
+ghost use lib.ListN.{length};
+ghost use Rattle.rows.specs.Calls.{buffers};
+ghost use Rattle.store.specs.Record.{newRecord};
+ghost use Rattle.store.specs.Calls.{noShape};
+ghost use Rattle.callfile.specs.Format.{entryAt};
+ghost use Rattle.texts.specs.Text.{laid};
+ghost use Rattle.replay.specs.Replay.{start, replayOf};
+ghost use Rattle.replay.specs.Transcript.{linesFrom, played};
+ghost use Rattle.replay.specs.Turn.{turned};
+
+pub(crate) fn walk_file(file: &[u8], cells: &mut [u8], scales: &mut [u32], out: &mut [u8]) -> Played
+    requires { ⌜ (length (now file) ≤ 16384) × (4194304 ≤ length (now out)) ⌝ }
+    ensures { λ r.
+        ⌜
+        played r (now (cells .exit)) (now (scales .exit)) (now (out .exit))
+        ≡ record {
+          last = replayOf (now (file .entry)) (buffers (now (cells .entry)) (now (scales .entry)));
+          text = laid (linesFrom (length (now (file .entry))) (now (file .entry)) (start (buffers (now (cells .entry)) (now (scales .entry))))) (now (out .entry));
+        }
+        ⌝ }
+{
+    let mut so_far = nothing_played();
+    loop {
+        let entry = read_from(file, so_far.place);
+        let next = turn(file, entry, so_far, cells, scales, out);
+        if next.place <= so_far.place {
+            return next;
+        }
+        so_far = next;
+    }
+}
+
+fn nothing_played() -> Played
+    ensures { λ r. ⌜ r ≡ record { place = 0; count = 0; after = newRecord noShape } ⌝ }
+{
+    Played {
+        place: 0,
+        count: 0,
+        after: not_open(),
+    }
+}
+
+// Plays the entry at the place reached, and lays its line behind those before it.
+fn turn(
+    file: &[u8],
+    entry: Entry,
+    so_far: Played,
+    cells: &mut [u8],
+    scales: &mut [u32],
+    out: &mut [u8],
+) -> Played
+    requires { ⌜ «entry» ≡ entryAt (now file) («so_far» .place) ⌝ }
+    requires { ⌜ «so_far» .count + 2048 ≤ length (now out) ⌝ }
+    ensures { λ r.
+        ⌜
+        played r (now (cells .exit)) (now (scales .exit)) (now (out .exit))
+        ≡ turned (now (file .entry))
+        (played «so_far» (now (cells .entry)) (now (scales .entry)) (now (out .entry)))
+        ⌝ }
+{
+    let told = tell(file, so_far.place, entry, so_far.after, cells, scales);
+    let line = told.line;
+    let after = told.after;
+    Played {
+        place: so_far.place + size_of(entry),
+        count: line_text(line, after, out, so_far.count),
+        after,
+    }
+}
