@@ -3,7 +3,7 @@ use shapes::Shape;
 ghost use mathlib.Core.Path.{_≡_};
 ghost use Prim.Native.Nat.{_+_, _≤_};
 ghost use lib.ListN.{length};
-ghost use Rattle.callfile.specs.Format.{openAt, appendAt, truncateAt, advanceAt, kindAt, entryAt, sizeOf, placeAfter, wordsRead};
+ghost use Rattle.callfile.specs.Format.{openAt, appendAt, truncateAt, advanceAt, kindAt, entryAt, sizeOf, wordsRead};
 
 mod little;
 pub mod reader;
@@ -128,13 +128,6 @@ pub fn size_of(entry: Entry) -> usize
         Entry::End => 0,
         Entry::Bad => 0,
     }
-}
-
-// The place after what stands at a place.
-pub fn place_after(file: &[u8], at: usize) -> usize
-    ensures { λ r. ⌜ r ≡ placeAfter (now (file .entry)) at ⌝ }
-{
-    at + size_of(entry_at(file, at))
 }
 
 // Reads as many numbers as are lent, from a place on; none where the file has too few bytes.

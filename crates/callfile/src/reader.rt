@@ -1,9 +1,8 @@
 // A reader carries a call file and its place in it. Each function takes it apart and leaves the work to a function on slices.
 use super::Entry;
 use super::entry_at;
-use super::place_after;
 ghost use mathlib.Core.Path.{_≡_};
-ghost use Rattle.callfile.specs.Format.{entryAt, placeAfter};
+ghost use Rattle.callfile.specs.Format.{entryAt};
 
 pub struct Reader<'a> {
     pub file: &'a [u8],
@@ -32,28 +31,4 @@ pub fn here<'a>(r: Reader<'a>) -> Entry
     ensures { λ e. ⌜ e ≡ entryAt (now (r .entry .file)) (r .entry .place) ⌝ }
 {
     entry_at(r.file, r.place)
-}
-
-// The reader past what stands at its place.
-pub fn past<'a>(r: Reader<'a>) -> Reader<'a>
-    ensures { λ q. ⌜ (q .file ≡ r .entry .file) × (q .place ≡ placeAfter (now (r .entry .file)) (r .entry .place)) ⌝ }
-{
-    Reader {
-        file: r.file,
-        place: place_after(r.file, r.place),
-    }
-}
-
-// What a reader finds at a place of a file.
-pub fn read_from(file: &[u8], place: usize) -> Entry
-    ensures { λ r. ⌜ r ≡ entryAt (now (file .entry)) place ⌝ }
-{
-    here(moved(new(file), place))
-}
-
-// Where a reader stands once it has passed what it finds at a place of a file.
-pub fn pass_from(file: &[u8], place: usize) -> usize
-    ensures { λ r. ⌜ r ≡ placeAfter (now (file .entry)) place ⌝ }
-{
-    past(moved(new(file), place)).place
 }

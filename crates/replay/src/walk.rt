@@ -1,9 +1,11 @@
-// A call file is walked record by record, up to the end or to what is no record.
+// A reader walks a call file, record by record, up to the end or to what is no record.
 use super::Played;
 use super::lines::line_text;
 use super::tell;
 use callfile::Entry;
-use callfile::reader::read_from;
+use callfile::reader::here;
+use callfile::reader::moved;
+use callfile::reader::new;
 use callfile::size_of;
 use store::not_open;
 ghost use mathlib.Core.Path.{_≡_};
@@ -29,14 +31,14 @@ pub(crate) fn walk_file(file: &[u8], cells: &mut [u8], scales: &mut [u32], out: 
         }
         ⌝ }
 {
+    let mut reader = new(file);
     let mut so_far = nothing_played();
     loop {
-        let entry = read_from(file, so_far.place);
-        let next = turn(file, entry, so_far, cells, scales, out);
-        if next.place <= so_far.place {
-            return next;
+        so_far = turn(file, here(reader), so_far, cells, scales, out);
+        if so_far.place <= reader.place {
+            return so_far;
         }
-        so_far = next;
+        reader = moved(reader, so_far.place);
     }
 }
 
