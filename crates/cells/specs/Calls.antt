@@ -1,4 +1,4 @@
--- Rows appended, removed and read, where the caller says how many positions a layer has: the paper's section Calls, with replies 4, 5, 7, 8 and 9.
+-- Rows appended, removed and read, where the caller says how many positions a layer has: the paper's section Calls, with replies 3 to 5 and 7 to 9.
 use Prim.Native.Nat.{ℕ, _+_, _-_, _/_, _%_}
 use mathlib.Core.Bool.{Bool, not, _&&_}
 use mathlib.Core.List.{List, [], _∷_, _++_}
@@ -55,7 +55,7 @@ wholeRows s keys values = eqb (keys % width s) 0 && eqb values keys
 abbrev pub fitsAfter : Shape → ℕ → ℕ → Bool
 fitsAfter s held keys = leb (held + positions s keys) (s .capacity)
 
--- the refusals of each call past those of the room
+-- the refusals of each call past those of the room and the layer's length
 abbrev pub appendRefusals : Shape → ℕ → ℕ → ℕ → ℕ → List Refusal
 appendRefusals s l held keys values =
     (4 when not (hasLayer s l)) ∷ (7 when not (wholeRows s keys values)) ∷ (9 when not (fitsAfter s held keys)) ∷ []
@@ -71,9 +71,9 @@ readRefusals s l held side h p out =
     ∷ (8 when not (ltb p held))
     ∷ []
 
--- 9 where a layer is said to have more positions than the capacity
-abbrev pub overfull : Shape → ℕ → List Refusal
-overfull s held = (9 when not (leb held (s .capacity))) ∷ []
+-- 3 of the one length that the caller says, where there is such a layer
+abbrev pub overfull : Shape → ℕ → ℕ → List Refusal
+overfull s l held = (3 when (hasLayer s l && not (leb held (s .capacity)))) ∷ []
 
 abbrev pub room : Shape → Buffers → List Refusal
 room s b = roomRefusals s (length (b .cells)) (length (b .scales))
@@ -81,11 +81,11 @@ room s b = roomRefusals s (length (b .cells)) (length (b .scales))
 -- each call
 unfoldable pub appendRowsOf : Shape → ℕ → ℕ → List ℕ → List ℕ → Buffers → Outcome Buffers
 appendRowsOf s l held keys values b =
-    outcome (room s b ++ appendRefusals s l held (length keys) (length values)) (appended s l held keys values b) b
+    outcome (room s b ++ (overfull s l held ++ appendRefusals s l held (length keys) (length values))) (appended s l held keys values b) b
 
 unfoldable pub removeRowsOf : Shape → ℕ → ℕ → ℕ → Buffers → Outcome Buffers
-removeRowsOf s l held t b = outcome (room s b ++ (removeRefusals s l ++ overfull s held)) (removed s l held t b) b
+removeRowsOf s l held t b = outcome (room s b ++ (overfull s l held ++ removeRefusals s l)) (removed s l held t b) b
 
 unfoldable pub readRowOf : Shape → ℕ → ℕ → ℕ → ℕ → ℕ → Buffers → List ℕ → Outcome (List ℕ)
 readRowOf s l held side h p b out =
-    outcome (room s b ++ (readRefusals s l held side h p (length out) ++ overfull s held)) (rowAt s l side h p b) out
+    outcome (room s b ++ (overfull s l held ++ readRefusals s l held side h p (length out))) (rowAt s l side h p b) out

@@ -129,7 +129,7 @@ fn append_reply(
     cells: usize,
     scales: usize,
 ) -> Reply
-    ensures { λ r. ⌜ replyNumber r ≡ lowest (roomRefusals shape cells scales ++ appendRefusals shape layer held keys values) ⌝ }
+    ensures { λ r. ⌜ replyNumber r ≡ lowest (roomRefusals shape cells scales ++ (overfull shape layer held ++ appendRefusals shape layer held keys values)) ⌝ }
 {
     let room = room_reply(shape, cells, scales);
     if number(room) != 0 {
@@ -137,6 +137,9 @@ fn append_reply(
     }
     if shape.layers <= layer {
         return Reply::Layer;
+    }
+    if shape.capacity < held {
+        return Reply::Lengths;
     }
     let width = shape.heads as usize * shape.head_size as usize;
     if keys % width != 0 {
@@ -145,9 +148,6 @@ fn append_reply(
     if values != keys {
         return Reply::Size;
     }
-    if shape.capacity < held {
-        return Reply::Full;
-    }
     if ((shape.capacity - held) as usize) < keys / width {
         return Reply::Full;
     }
@@ -155,7 +155,7 @@ fn append_reply(
 }
 
 fn remove_reply(shape: Shape, layer: u32, held: u32, cells: usize, scales: usize) -> Reply
-    ensures { λ r. ⌜ replyNumber r ≡ lowest (roomRefusals shape cells scales ++ (removeRefusals shape layer ++ overfull shape held)) ⌝ }
+    ensures { λ r. ⌜ replyNumber r ≡ lowest (roomRefusals shape cells scales ++ (overfull shape layer held ++ removeRefusals shape layer)) ⌝ }
 {
     let room = room_reply(shape, cells, scales);
     if number(room) != 0 {
@@ -165,7 +165,7 @@ fn remove_reply(shape: Shape, layer: u32, held: u32, cells: usize, scales: usize
         return Reply::Layer;
     }
     if shape.capacity < held {
-        return Reply::Full;
+        return Reply::Lengths;
     }
     Reply::Done
 }
@@ -184,7 +184,7 @@ fn read_reply(
     ensures { λ r.
         ⌜
         replyNumber r
-        ≡ lowest (roomRefusals shape cells scales ++ (readRefusals shape layer held side head position out ++ overfull shape held))
+        ≡ lowest (roomRefusals shape cells scales ++ (overfull shape layer held ++ readRefusals shape layer held side head position out))
         ⌝ }
 {
     let room = room_reply(shape, cells, scales);
@@ -193,6 +193,9 @@ fn read_reply(
     }
     if shape.layers <= layer {
         return Reply::Layer;
+    }
+    if shape.capacity < held {
+        return Reply::Lengths;
     }
     if shape.heads <= head {
         return Reply::Head;
@@ -205,9 +208,6 @@ fn read_reply(
     }
     if held <= position {
         return Reply::Position;
-    }
-    if shape.capacity < held {
-        return Reply::Full;
     }
     Reply::Done
 }

@@ -1,7 +1,7 @@
 -- What a layer that fits is known by, and what a call leaves of it.
 -- Each holds by the tests that the calls make, one by one.
 use mathlib.Core.Path.{_≡_, ap}
-use mathlib.Core.Bool.{true, false}
+use mathlib.Core.Bool.{Bool, true, false}
 use mathlib.Core.List.{List}
 use Prim.Native.Nat.{ℕ, _+_, _-_, _*_, _≤_, _<_}
 use native.Mathlib.Omega.{arith}
@@ -9,10 +9,10 @@ use lib.Dec.{leb}
 use lib.ListN.{length}
 use borrow.Author.Tests.{le-leb, lt-leb, leb-true, eq-eqb, eqb-true}
 use Rattle.replies.proofs.Flags.{both, both-true}
-use Rattle.replies.proofs.Refusals.{test-left}
 use Rattle.shapes.specs.declared.Shape.{Shape}
 use Rattle.shapes.specs.Shape.{bytesOf, wordsOf, width}
-use Rattle.rows.specs.Calls.{Buffers, buffers}
+use Rattle.rows.specs.Calls.{Buffers, buffers, tells}
+use Rattle.rows.proofs.FitLaws.{tried-left}
 use Rattle.layers.specs.Layer.{layerSize, putLayer, zeros}
 use Rattle.layers.specs.Calls.{sideOf, cellRow, scaleRow, layerFits, numbersFit, putLayerOf, clearLayerOf}
 use Rattle.layers.specs.Fits.{Fits}
@@ -42,17 +42,17 @@ module _ {s : Shape} {p n cells scales : ℕ} where
   facts-fit h = rw (h .in-limits, le-leb _ _ (h .span), eq-eqb _ _ (h .cell-size), eq-eqb _ _ (h .scale-size))
 
 -- what each call leaves of a layer that fits
-module _ (s : Shape) (p n : ℕ) (cells scales : List ℕ) (fits : Fits layerSize s p n (length cells) (length scales)) {r : ℕ} {x y : List ℕ} where
+module _ (s : Shape) (p n : ℕ) (cells scales : List ℕ) (fits : Fits layerSize s p n (length cells) (length scales)) {done : Bool} {x y : List ℕ} where
   pub put-left : (keys values : List ℕ) → length keys ≡ n * width s → length values ≡ n * width s
-      → record { reply = r; left = buffers x y } ≡ putLayerOf s p n keys values (buffers cells scales)
+      → tells done (buffers x y) ≡ putLayerOf s p n keys values (buffers cells scales)
       → (x ≡ putLayer (bytesOf s) s p n (λ side. cellRow s (sideOf keys values side)) cells)
       × (y ≡ putLayer (wordsOf s) s p n (λ side. scaleRow s (sideOf keys values side)) scales)
   unfolding putLayerOf numbersFit
   put-left keys values k v e =
-      let q = test-left 7 _ _ (both-true (facts-fit fits) (both-true (eq-eqb _ _ k) (eq-eqb _ _ v))) e in
+      let q = tried-left _ _ (both-true (facts-fit fits) (both-true (eq-eqb _ _ k) (eq-eqb _ _ v))) e in
       (ap (λ (b : Buffers). b .cells) q, ap (λ (b : Buffers). b .scales) q)
 
-  pub clear-left : record { reply = r; left = buffers x y } ≡ clearLayerOf s p n (buffers cells scales)
+  pub clear-left : tells done (buffers x y) ≡ clearLayerOf s p n (buffers cells scales)
       → (x ≡ putLayer (bytesOf s) s p n (zeros (bytesOf s)) cells) × (y ≡ putLayer (wordsOf s) s p n (zeros (wordsOf s)) scales)
   unfolding clearLayerOf
-  clear-left e = let q = test-left 7 _ _ (facts-fit fits) e in (ap (λ (b : Buffers). b .cells) q, ap (λ (b : Buffers). b .scales) q)
+  clear-left e = let q = tried-left _ _ (facts-fit fits) e in (ap (λ (b : Buffers). b .cells) q, ap (λ (b : Buffers). b .scales) q)

@@ -1,16 +1,15 @@
 -- A layer's rows written from keys and values, or zeroed: what the paper's section Calls appends and removes, in the layer's part of both buffers.
--- Reply 7 of its section Replies where what is lent is not such a part.
+-- Such a call answers whether what is lent was such a part, which is no reply of the paper.
 use Prim.Native.Nat.{ℕ, _+_, _*_}
-use mathlib.Core.Bool.{Bool, cond, not, _&&_}
-use mathlib.Core.List.{List, [], _∷_}
+use mathlib.Core.Bool.{Bool, cond, _&&_}
+use mathlib.Core.List.{List}
 use lib.Dec.{eqb, ltb, leb}
 use lib.ListN.{length}
 use Rattle.lists.specs.Chunks.{part}
-use Rattle.replies.specs.Outcome.{_when_, Outcome, outcome}
 use Rattle.shapes.specs.Shape.{headSize, bytesOf, wordsOf, width, limits}
 use Rattle.shapes.specs.declared.Shape.{Shape}
 use Rattle.rows.specs.Row.{rowCells, rowScales}
-use Rattle.rows.specs.Calls.{Buffers, buffers}
+use Rattle.rows.specs.Calls.{Buffers, buffers, Tried, tried}
 use Rattle.layers.specs.Layer.{layerSize, putLayer, zeros, place}
 
 -- position first, then head: the numbers of head h in position i
@@ -44,18 +43,18 @@ unfoldable pub placeOf : ℕ → Shape → ℕ → ℕ → ℕ → ℕ → ℕ
 placeOf b s l side h p = cond (hasPlace b s l side h p) (place b s l side h p) 0
 
 -- each call
-unfoldable pub putLayerOf : Shape → ℕ → ℕ → List ℕ → List ℕ → Buffers → Outcome Buffers
+unfoldable pub putLayerOf : Shape → ℕ → ℕ → List ℕ → List ℕ → Buffers → Tried Buffers
 putLayerOf s p n keys values b =
-    outcome
-    ((7 when not (layerFits s p n (length (b .cells)) (length (b .scales)) && numbersFit s n (length keys) (length values))) ∷ [])
+    tried
+    (layerFits s p n (length (b .cells)) (length (b .scales)) && numbersFit s n (length keys) (length values))
     (buffers
     (putLayer (bytesOf s) s p n (λ side. cellRow s (sideOf keys values side)) (b .cells))
     (putLayer (wordsOf s) s p n (λ side. scaleRow s (sideOf keys values side)) (b .scales)))
     b
 
-unfoldable pub clearLayerOf : Shape → ℕ → ℕ → Buffers → Outcome Buffers
+unfoldable pub clearLayerOf : Shape → ℕ → ℕ → Buffers → Tried Buffers
 clearLayerOf s p n b =
-    outcome
-    ((7 when not (layerFits s p n (length (b .cells)) (length (b .scales)))) ∷ [])
+    tried
+    (layerFits s p n (length (b .cells)) (length (b .scales)))
     (buffers (putLayer (bytesOf s) s p n (zeros (bytesOf s)) (b .cells)) (putLayer (wordsOf s) s p n (zeros (wordsOf s)) (b .scales)))
     b

@@ -1,5 +1,4 @@
 // Layers: rows in a layer of both buffers, where they lie, and positions zeroed.
-use replies::Reply;
 use shapes::Shape;
 use shapes::cell_bytes;
 use shapes::in_limits;
@@ -8,26 +7,25 @@ ghost use mathlib.Core.Path.{_≡_};
 ghost use mathlib.Core.Bool.{true};
 ghost use Prim.Native.Nat.{_≤_};
 ghost use lib.ListN.{length, replicate};
-ghost use Rattle.replies.specs.Outcome.{answered};
 ghost use Rattle.shapes.specs.Shape.{bytesOf, wordsOf, limits};
-ghost use Rattle.rows.specs.Calls.{buffers};
+ghost use Rattle.rows.specs.Calls.{buffers, tells};
 ghost use Rattle.layers.specs.Layer.{blockSize, sideSize, layerSize, put, putSide, putLayer, zeros};
 ghost use Rattle.layers.specs.Calls.{layerFits, hasPlace, placeOf, clearLayerOf};
 ghost use Rattle.layers.specs.Fits.{Fits};
 
-// Zeros into positions `p` to `p + n - 1` of a layer.
-pub fn clear_layer(shape: Shape, p: usize, n: usize, cells: &mut [u8], scales: &mut [u32]) -> Reply
+// Zeros into positions `p` to `p + n - 1` of a layer, where what is lent is one, and answers whether it is.
+pub fn clear_layer(shape: Shape, p: usize, n: usize, cells: &mut [u8], scales: &mut [u32]) -> bool
     ensures { λ r.
         ⌜
-        answered r (buffers (now (cells .exit)) (now (scales .exit)))
+        tells r (buffers (now (cells .exit)) (now (scales .exit)))
         ≡ clearLayerOf shape p n (buffers (now (cells .entry)) (now (scales .entry)))
         ⌝ }
 {
     if !layer_fits(shape, p, n, cells.len(), scales.len()) {
-        return Reply::Size;
+        return false;
     }
     clear_sides(shape, p, n, cells, scales);
-    Reply::Done
+    true
 }
 
 // Whether positions `p` to `p + n - 1` are in a layer, and what is lent is the layer's part of both buffers.

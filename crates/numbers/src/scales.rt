@@ -20,7 +20,7 @@ pub fn largest_magnitude(run: &[u32]) -> f32
     most
 }
 
-// A scale under which the largest magnitude has the code `divisor`.
+// The largest magnitude divided by `divisor`; 1.0 where it is 0.
 fn scale_by(run: &[u32], divisor: u16) -> f32
     ensures { λ r. ⌜ r ≡ scaleOf divisor (now (run .entry)) ⌝ }
 {

@@ -1,7 +1,7 @@
 -- What the lowest refusal of a list says of its conditions, both ways, and what a call leaves in each case.
 -- Each holds by going through the list: a condition that holds ends the search.
 use mathlib.Core.Path.{_≡_, refl, sym, ap, _∙_, subst}
-use mathlib.Core.Bool.{Bool, true, false, cond, not, _&&_}
+use mathlib.Core.Bool.{Bool, true, false, cond, _&&_}
 use mathlib.Core.List.{List, [], _∷_, _++_}
 use mathlib.Core.Logic.{_↔_}
 use Prim.Native.Nat.{ℕ, _≤_, _<_}
@@ -105,13 +105,6 @@ refused-first a b new old h =
     let e = refused-before a b h in
     outcome-refused (a ++ b) new old (λ z. h (sym e ∙ z)) ∙ rw e
 
--- refusals of which none holds may stand before or after others
-pub passed-after : (a b : List Refusal) → None b → lowest (a ++ b) ≡ lowest a
-unfolding lowest
-passed-after [] b h = none-lowest b h
-passed-after ((n when true) ∷ a) b h = refl
-passed-after ((n when false) ∷ a) b h = passed-after a b h
-
 -- what a test of a reply's number, n, says of the refusals that the reply is the lowest of
 pub still-refused : {n m k : ℕ} → n ≡ m → m ≡ k → (n ≡ 0 → ⊥) → k ≡ 0 → ⊥
 still-refused e f h z = h (e ∙ f ∙ z)
@@ -123,16 +116,6 @@ still-passed e f z = sym (e ∙ f) ∙ z
 pub given-number : {A : Type 0} (a : List Refusal) (new old : A) {r : ℕ} {x : A} → record { reply = r; left = x } ≡ outcome a new old → r ≡ lowest a
 unfolding outcome
 given-number a new old e = ap (λ (o : Outcome _). o .reply) e
-
--- a call whose one test passed: what it answers, and what it left
-module _ {A : Type 0} (n : ℕ) (new old : A) {t : Bool} (e : t ≡ true) where
-  pub test-done : {x : A} → x ≡ new → record { reply = 0; left = x } ≡ outcome ((n when not t) ∷ []) new old
-  unfolding outcome lowest
-  test-done q = rw (e, q)
-
-  pub test-left : {r : ℕ} {x : A} → record { reply = r; left = x } ≡ outcome ((n when not t) ∷ []) new old → x ≡ new
-  unfolding outcome lowest
-  test-left q = ap (λ (o : Outcome A). o .left) q ∙ rw e
 
 -- a call by way of another whose lowest refusal is its own: it is refused as that one is, and done as that one is
 module _ {A B : Type 0} (a b : List Refusal) (same : lowest a ≡ lowest b) (new old : A) (new′ old′ : B) where

@@ -1,7 +1,7 @@
 -- What rows that fit are known by, in all and in each format, and what a call leaves of one.
 -- Each holds by the tests that rows pass, one by one.
-use mathlib.Core.Path.{_≡_, ap}
-use mathlib.Core.Bool.{true}
+use mathlib.Core.Path.{_≡_, ap, _∙_}
+use mathlib.Core.Bool.{Bool, true}
 use mathlib.Core.List.{List}
 use Prim.Native.Nat.{ℕ, _*_, _%_, _≤_}
 use native.Mathlib.Nat.{one-mul, mul-le-mul}
@@ -9,12 +9,11 @@ use native.Mathlib.Omega.{arith}
 use lib.ListN.{length}
 use borrow.Author.Tests.{le-leb, leb-true, eq-eqb, eqb-true}
 use Rattle.replies.proofs.Flags.{both}
-use Rattle.replies.proofs.Refusals.{test-left}
 use Rattle.shapes.specs.declared.Shape.{Shape}
 use Rattle.shapes.specs.Shape.{headSize, ofFormat, cellBytes, scaleWords, bytesOf, wordsOf, limits}
 use Rattle.shapes.proofs.ShapeLaws.{limits-facts}
 use Rattle.rows.specs.Row.{rowCells, rowScales, rowNumbers}
-use Rattle.rows.specs.Calls.{Buffers, buffers, rowsFit, putRowOf, getRowOf}
+use Rattle.rows.specs.Calls.{Buffers, buffers, Tried, tells, tried, rowsFit, putRowOf, getRowOf}
 
 -- what m rows that fit are known by, both ways
 pub record RowsFit (format d m cells scales : ℕ) : Type 0 where
@@ -99,16 +98,24 @@ module _ {d cells scales : ℕ} where
   unfolding cellBytes scaleWords ofFormat
   int4-fits h = omega arith
 
+-- a call on what fits: what it tells, and what it left
+module _ {A : Type 0} {fits : Bool} (new old : A) (e : fits ≡ true) where
+  pub tried-done : {x : A} → x ≡ new → tells true x ≡ tried fits new old
+  tried-done q = rw (e, q)
+
+  pub tried-left : {done : Bool} {x : A} → tells done x ≡ tried fits new old → x ≡ new
+  tried-left q = ap (λ (o : Tried A). o .left) q ∙ rw e
+
 -- what each call leaves of a row that fits
-pub put-left : {format n : ℕ} (run cells scales : List ℕ) {x y : List ℕ} → RowFits format (length run) (length cells) (length scales)
-    → record { reply = n; left = buffers x y } ≡ putRowOf format run (buffers cells scales)
+pub put-left : {format : ℕ} {done : Bool} (run cells scales : List ℕ) {x y : List ℕ} → RowFits format (length run) (length cells) (length scales)
+    → tells done (buffers x y) ≡ putRowOf format run (buffers cells scales)
     → (x ≡ rowCells format run) × (y ≡ rowScales format run)
 unfolding putRowOf
 put-left run cells scales h e =
-    let q = test-left 7 _ _ (facts-fit h) e in (ap (λ (b : Buffers). b .cells) q, ap (λ (b : Buffers). b .scales) q)
+    let q = tried-left _ _ (facts-fit h) e in (ap (λ (b : Buffers). b .cells) q, ap (λ (b : Buffers). b .scales) q)
 
-pub get-left : {format n : ℕ} (cells scales out : List ℕ) {x : List ℕ} → RowFits format (length out) (length cells) (length scales)
-    → record { reply = n; left = x } ≡ getRowOf format (buffers cells scales) out
+pub get-left : {format : ℕ} {done : Bool} (cells scales out : List ℕ) {x : List ℕ} → RowFits format (length out) (length cells) (length scales)
+    → tells done x ≡ getRowOf format (buffers cells scales) out
     → x ≡ rowNumbers format (length out) cells scales
 unfolding getRowOf
-get-left cells scales out h e = test-left 7 _ _ (facts-fit h) e
+get-left cells scales out h e = tried-left _ _ (facts-fit h) e

@@ -9,7 +9,6 @@ use numbers::words::bf16_to_f32;
 use numbers::words::f32_to_bf16;
 use numbers::words::f32_to_word;
 use numbers::words::word_to_f32;
-use replies::Reply;
 use shapes::cell_bytes;
 use shapes::of_format;
 use shapes::scale_words;
@@ -19,25 +18,24 @@ ghost use mathlib.Core.List.{[], _∷_};
 ghost use Prim.Native.Nat.{_+_, _*_, _≤_};
 ghost use lib.Dec.{eqb};
 ghost use lib.ListN.{length};
-ghost use Rattle.replies.specs.Outcome.{answered};
 ghost use Rattle.numbers.specs.Word.{word};
 ghost use Rattle.numbers.specs.Scale.{scaleOf};
 ghost use Rattle.groups.specs.Group.{packed};
 ghost use Rattle.lists.specs.Bytes.{little, fromLittle};
 ghost use Rattle.rows.specs.Row.{f32Cells, f32Numbers, bf16Cells, bf16Numbers, int8Cells, int8Scales, int8Numbers};
 ghost use Rattle.rows.specs.Row.{int4Cells, int4Scales, int4Numbers};
-ghost use Rattle.rows.specs.Calls.{buffers, rowsFit, putRowOf, getRowOf};
+ghost use Rattle.rows.specs.Calls.{buffers, tells, rowsFit, putRowOf, getRowOf};
 
-// Writes the cells and the scale words of a run.
-pub fn put_row(format: u32, run: &[u32], cells: &mut [u8], scales: &mut [u32]) -> Reply
+// Writes the cells and the scale words of a run, where what is lent is such a row, and answers whether it is.
+pub fn put_row(format: u32, run: &[u32], cells: &mut [u8], scales: &mut [u32]) -> bool
     ensures { λ r.
         ⌜
-        answered r (buffers (now (cells .exit)) (now (scales .exit)))
+        tells r (buffers (now (cells .exit)) (now (scales .exit)))
         ≡ putRowOf format (now (run .entry)) (buffers (now (cells .entry)) (now (scales .entry)))
         ⌝ }
 {
     if !rows_fit(format, run.len(), 1, cells.len(), scales.len()) {
-        return Reply::Size;
+        return false;
     }
     match format {
         0 => put_f32(run, cells),
@@ -45,15 +43,15 @@ pub fn put_row(format: u32, run: &[u32], cells: &mut [u8], scales: &mut [u32]) -
         2 => put_int8(run, cells, scales),
         _ => put_int4(run, cells, scales),
     }
-    Reply::Done
+    true
 }
 
-// Reads as many numbers as `out` has places.
-pub fn get_row(format: u32, cells: &[u8], scales: &[u32], out: &mut [u32]) -> Reply
-    ensures { λ r. ⌜ answered r (now (out .exit)) ≡ getRowOf format (buffers (now (cells .entry)) (now (scales .entry))) (now (out .entry)) ⌝ }
+// Reads as many numbers as `out` has places, where what is lent is such a row, and answers whether it is.
+pub fn get_row(format: u32, cells: &[u8], scales: &[u32], out: &mut [u32]) -> bool
+    ensures { λ r. ⌜ tells r (now (out .exit)) ≡ getRowOf format (buffers (now (cells .entry)) (now (scales .entry))) (now (out .entry)) ⌝ }
 {
     if !rows_fit(format, out.len(), 1, cells.len(), scales.len()) {
-        return Reply::Size;
+        return false;
     }
     match format {
         0 => get_f32(cells, out),
@@ -61,7 +59,7 @@ pub fn get_row(format: u32, cells: &[u8], scales: &[u32], out: &mut [u32]) -> Re
         2 => get_int8(cells, scales, out),
         _ => get_int4(cells, scales, out),
     }
-    Reply::Done
+    true
 }
 
 // The word of four bytes, least significant first, and 0 where there are not four. The back end loads bytes at once that are lent as a part.

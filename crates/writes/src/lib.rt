@@ -1,6 +1,5 @@
 // Writes: rows in a layer of both buffers, written from numbers.
 use layers::layer_fits;
-use replies::Reply;
 use rows::put_row;
 use shapes::Shape;
 use shapes::cell_bytes;
@@ -9,15 +8,14 @@ ghost use mathlib.Core.Path.{_≡_};
 ghost use Prim.Native.Nat.{_*_, _<_, min};
 ghost use lib.ListN.{length};
 ghost use Rattle.lists.specs.Chunks.{joined};
-ghost use Rattle.replies.specs.Outcome.{answered};
 ghost use Rattle.shapes.specs.Shape.{bytesOf, wordsOf, width};
 ghost use Rattle.rows.specs.Row.{rowCells, rowScales};
-ghost use Rattle.rows.specs.Calls.{buffers};
+ghost use Rattle.rows.specs.Calls.{buffers, tells};
 ghost use Rattle.layers.specs.Layer.{blockSize, sideSize, layerSize, put, putSide, putLayer};
 ghost use Rattle.layers.specs.Calls.{headNumbers, sideOf, cellRow, scaleRow, putLayerOf};
 ghost use Rattle.layers.specs.Fits.{Fits, RowsFit};
 
-// Keys and values into positions `p` to `p + n - 1` of a layer.
+// Keys and values into positions `p` to `p + n - 1` of a layer, where what is lent is one and they are so many, and answers whether it is so.
 pub fn put_layer(
     shape: Shape,
     p: usize,
@@ -26,25 +24,25 @@ pub fn put_layer(
     values: &[u32],
     cells: &mut [u8],
     scales: &mut [u32],
-) -> Reply
+) -> bool
     ensures { λ r.
         ⌜
-        answered r (buffers (now (cells .exit)) (now (scales .exit)))
+        tells r (buffers (now (cells .exit)) (now (scales .exit)))
         ≡ putLayerOf shape p n (now (keys .entry)) (now (values .entry)) (buffers (now (cells .entry)) (now (scales .entry)))
         ⌝ }
 {
     if !layer_fits(shape, p, n, cells.len(), scales.len()) {
-        return Reply::Size;
+        return false;
     }
     let numbers = n * (shape.heads as usize * shape.head_size as usize);
     if keys.len() != numbers {
-        return Reply::Size;
+        return false;
     }
     if values.len() != numbers {
-        return Reply::Size;
+        return false;
     }
     put_sides(shape, p, n, keys, values, cells, scales);
-    Reply::Done
+    true
 }
 
 // The keys' side, then the values'.

@@ -3,7 +3,7 @@ use borrow.Author.Needs.{needs}
 use Rattle.replies.proofs.Refusals.{still-passed}
 use Rattle.cells.specs.Calls.{appendRowsOf}
 use Rattle.replies.proofs.Tested.{call-done, call-refused}
-use Rattle.cells.proofs.ReplyLaws.{append-fits}
+use Rattle.cells.proofs.ReplyLaws.{append-fits-after}
 use Rattle.cells.proofs.append_rows.Statement.{statement}
 use Rattle.cells.proofs.append_rows.Tie as tie
 
@@ -15,7 +15,7 @@ number-requires c κs = search needs
 
 put-in-requires : tie.Need-put-in-requires
 put-in-requires c κs =
-    append-fits _ _ _ _ _ _ _
+    append-fits-after _ _ _ _ _ _ _
     (still-passed (c .before .before .before .number .ensures) (c .before .before .before .before .append-reply .ensures) (c .before .before .if1 .taken))
 
 same-length : tie.Need-same-length

@@ -10,7 +10,7 @@ use borrow.Author.Tests.{lt-ltb, le-ltb, le-leb, lt-leb, eq-eqb, ne-eqb}
 use Rattle.replies.specs.Outcome.{lowest}
 use Rattle.replies.proofs.Tested.{first-refused, first-passed}
 use Rattle.shapes.specs.Shape.{roomRefusals}
-use Rattle.cells.specs.Calls.{readRefusals, overfull}
+use Rattle.cells.specs.Calls.{overfull, readRefusals}
 use Rattle.cells.proofs.read_reply.Statement.{statement}
 use Rattle.cells.proofs.read_reply.Tie as tie
 
@@ -26,9 +26,9 @@ returns c = first-refused _ (c .before .before .room-reply .ensures) (c .before 
 -- past the room's test, the lowest refusal is the call's own
 past : (c : tie.Else1) {x : ℕ}
     → let a = c .before .before .before .args in
-    x ≡ lowest (readRefusals (a .shape) (a .layer) (a .held) (a .side) (a .head) (a .position) (a .out) ++ overfull (a .shape) (a .held))
+    x ≡ lowest (overfull (a .shape) (a .layer) (a .held) ++ readRefusals (a .shape) (a .layer) (a .held) (a .side) (a .head) (a .position) (a .out))
     → x ≡ lowest
-    (roomRefusals (a .shape) (a .cells) (a .scales) ++ (readRefusals (a .shape) (a .layer) (a .held) (a .side) (a .head) (a .position) (a .out) ++ overfull (a .shape) (a .held)))
+    (roomRefusals (a .shape) (a .cells) (a .scales) ++ (overfull (a .shape) (a .layer) (a .held) ++ readRefusals (a .shape) (a .layer) (a .held) (a .side) (a .head) (a .position) (a .out)))
 past c e = first-passed _ (c .before .before .room-reply .ensures) (c .before .number .ensures) _ refl (c .if1 .left) e
 
 -- a side up to 1 is below 2
@@ -45,21 +45,18 @@ returns-3 c =
     past (c .before .before .before .before)
     (rw (
       lt-ltb _ _ (c .before .before .if2 .left),
-      le-ltb _ _ (c .if3 .taken),
+      lt-leb _ _ (c .if3 .taken),
     ))
 
 returns-4 : tie.Need-returns-4
 unfolding lowest
 returns-4 c =
-    past (c .before .before .before .before .before)
+    past (c .before .before .before .before .before .before)
     (rw (
-      lt-ltb _ _ (c .before .before .before .if2 .left),
-      lt-ltb _ _ (c .before .if3 .left),
-      le-ltb _ 2 (c .if4 .taken),
+      lt-ltb _ _ (c .before .before .before .before .if2 .left),
+      le-leb _ _ (c .before .before .if3 .left),
+      le-ltb _ _ (c .if4 .taken),
     ))
-
-cast-if5 : tie.Need-cast-if5
-cast-if5 c = search needs
 
 returns-5 : tie.Need-returns-5
 unfolding lowest
@@ -67,21 +64,24 @@ returns-5 c =
     past (c .before .before .before .before .before .before .before)
     (rw (
       lt-ltb _ _ (c .before .before .before .before .before .if2 .left),
-      lt-ltb _ _ (c .before .before .before .if3 .left),
-      one-side _ (c .before .before .if4 .left),
-      ne-eqb _ _ (c .if5 .taken),
+      le-leb _ _ (c .before .before .before .if3 .left),
+      lt-ltb _ _ (c .before .if4 .left),
+      le-ltb _ 2 (c .if5 .taken),
     ))
+
+cast-if6 : tie.Need-cast-if6
+cast-if6 c = search needs
 
 returns-6 : tie.Need-returns-6
 unfolding lowest
 returns-6 c =
-    past (c .before .before .before .before .before .before .before .before)
+    past (c .before .before .before .before .before .before .before .before .before)
     (rw (
-      lt-ltb _ _ (c .before .before .before .before .before .before .if2 .left),
-      lt-ltb _ _ (c .before .before .before .before .if3 .left),
-      one-side _ (c .before .before .before .if4 .left),
-      eq-eqb _ _ (c .before .if5 .left),
-      le-ltb _ _ (c .if6 .taken),
+      lt-ltb _ _ (c .before .before .before .before .before .before .before .if2 .left),
+      le-leb _ _ (c .before .before .before .before .before .if3 .left),
+      lt-ltb _ _ (c .before .before .before .if4 .left),
+      one-side _ (c .before .before .if5 .left),
+      ne-eqb _ _ (c .if6 .taken),
     ))
 
 returns-7 : tie.Need-returns-7
@@ -90,11 +90,11 @@ returns-7 c =
     past (c .before .before .before .before .before .before .before .before .before .before)
     (rw (
       lt-ltb _ _ (c .before .before .before .before .before .before .before .before .if2 .left),
-      lt-ltb _ _ (c .before .before .before .before .before .before .if3 .left),
-      one-side _ (c .before .before .before .before .before .if4 .left),
-      eq-eqb _ _ (c .before .before .before .if5 .left),
-      lt-ltb _ _ (c .before .before .if6 .left),
-      lt-leb _ _ (c .if7 .taken),
+      le-leb _ _ (c .before .before .before .before .before .before .if3 .left),
+      lt-ltb _ _ (c .before .before .before .before .if4 .left),
+      one-side _ (c .before .before .before .if5 .left),
+      eq-eqb _ _ (c .before .if6 .left),
+      le-ltb _ _ (c .if7 .taken),
     ))
 
 returns-8 : tie.Need-returns-8
@@ -103,11 +103,11 @@ returns-8 c =
     past (c .before .before .before .before .before .before .before .before .before .before)
     (rw (
       lt-ltb _ _ (c .before .before .before .before .before .before .before .before .if2 .left),
-      lt-ltb _ _ (c .before .before .before .before .before .before .if3 .left),
-      one-side _ (c .before .before .before .before .before .if4 .left),
-      eq-eqb _ _ (c .before .before .before .if5 .left),
-      lt-ltb _ _ (c .before .before .if6 .left),
-      le-leb _ _ (c .if7 .left),
+      le-leb _ _ (c .before .before .before .before .before .before .if3 .left),
+      lt-ltb _ _ (c .before .before .before .before .if4 .left),
+      one-side _ (c .before .before .before .if5 .left),
+      eq-eqb _ _ (c .before .if6 .left),
+      lt-ltb _ _ (c .if7 .left),
     ))
 
 pub read-reply-spec : {M : Type 1} → statement M
@@ -120,8 +120,8 @@ read-reply-spec =
     returns-2
     returns-3
     returns-4
-    cast-if5
     returns-5
+    cast-if6
     returns-6
     returns-7
     returns-8)

@@ -7,7 +7,7 @@ use borrow.Author.Tests.{lt-ltb, le-ltb, le-leb, lt-leb}
 use Rattle.replies.specs.Outcome.{lowest}
 use Rattle.replies.proofs.Tested.{first-refused, first-passed}
 use Rattle.shapes.specs.Shape.{roomRefusals}
-use Rattle.cells.specs.Calls.{removeRefusals, overfull}
+use Rattle.cells.specs.Calls.{overfull, removeRefusals}
 use Rattle.cells.proofs.remove_reply.Statement.{statement}
 use Rattle.cells.proofs.remove_reply.Tie as tie
 
@@ -23,8 +23,8 @@ returns c = first-refused _ (c .before .before .room-reply .ensures) (c .before 
 -- past the room's test, the lowest refusal is the call's own
 past : (c : tie.Else1) {x : ℕ}
     → let a = c .before .before .before .args in
-    x ≡ lowest (removeRefusals (a .shape) (a .layer) ++ overfull (a .shape) (a .held))
-    → x ≡ lowest (roomRefusals (a .shape) (a .cells) (a .scales) ++ (removeRefusals (a .shape) (a .layer) ++ overfull (a .shape) (a .held)))
+    x ≡ lowest (overfull (a .shape) (a .layer) (a .held) ++ removeRefusals (a .shape) (a .layer))
+    → x ≡ lowest (roomRefusals (a .shape) (a .cells) (a .scales) ++ (overfull (a .shape) (a .layer) (a .held) ++ removeRefusals (a .shape) (a .layer)))
 past c e = first-passed _ (c .before .before .room-reply .ensures) (c .before .number .ensures) _ refl (c .if1 .left) e
 
 returns-2 : tie.Need-returns-2
@@ -33,11 +33,21 @@ returns-2 c = past (c .before .before) (rw (le-ltb _ _ (c .if2 .taken)))
 
 returns-3 : tie.Need-returns-3
 unfolding lowest
-returns-3 c = past (c .before .before .before .before) (rw (lt-ltb _ _ (c .before .before .if2 .left), lt-leb _ _ (c .if3 .taken)))
+returns-3 c =
+    past (c .before .before .before .before)
+    (rw (
+      lt-ltb _ _ (c .before .before .if2 .left),
+      lt-leb _ _ (c .if3 .taken),
+    ))
 
 returns-4 : tie.Need-returns-4
 unfolding lowest
-returns-4 c = past (c .before .before .before .before) (rw (lt-ltb _ _ (c .before .before .if2 .left), le-leb _ _ (c .if3 .left)))
+returns-4 c =
+    past (c .before .before .before .before)
+    (rw (
+      lt-ltb _ _ (c .before .before .if2 .left),
+      le-leb _ _ (c .if3 .left),
+    ))
 
 pub remove-reply-spec : {M : Type 1} → statement M
 remove-reply-spec =

@@ -3,9 +3,8 @@ use mathlib.Core.Path.{_≡_}
 use mathlib.Core.Bool.{true}
 use borrow.Author.Needs.{needs}
 use lib.ListN.{length}
-use Rattle.replies.specs.Outcome.{lowest, outcome}
 use Rattle.replies.proofs.Flags.{passed, failed}
-use Rattle.replies.proofs.Refusals.{test-done}
+use Rattle.rows.proofs.FitLaws.{tried-done}
 use Rattle.layers.specs.Calls.{layerFits, clearLayerOf}
 use Rattle.layers.proofs.FitLaws.{fits-facts}
 use Rattle.layers.proofs.clear_layer.Statement.{statement}
@@ -15,7 +14,7 @@ layer-fits-requires : tie.Need-layer-fits-requires
 layer-fits-requires c κs = search needs
 
 returns : tie.Need-returns
-unfolding clearLayerOf outcome lowest
+unfolding clearLayerOf
 returns c = rw (failed (c .before .layer-fits .ensures) (c .if1 .taken))
 
 -- past the test the layer fits
@@ -37,7 +36,7 @@ returns-2 : tie.Need-returns-2
 unfolding clearLayerOf
 returns-2 c =
     let y = c .before .before .before .before .clear-sides .ensures in
-    test-done 7 _ _ (fits (c .before .before .before .before .before .before .before)) (rw (y .0, y .1))
+    tried-done _ _ (fits (c .before .before .before .before .before .before .before)) (rw (y .0, y .1))
 
 pub clear-layer-spec : {M : Type 1} → statement M
 clear-layer-spec =

@@ -1,17 +1,16 @@
 -- Past the test each arm knows the number of the format, and with it the lengths that the format asks for.
 use mathlib.Core.Path.{_≡_}
+use mathlib.Core.Bool.{true}
 use mathlib.Core.List.{List}
 use Prim.Native.Nat.{ℕ}
 use native.Mathlib.Omega.{arith}
 use borrow.Author.Needs.{needs}
 use lib.ListN.{length}
-use Rattle.replies.specs.Outcome.{lowest, outcome}
 use Rattle.replies.proofs.Flags.{passed, failed}
-use Rattle.replies.proofs.Refusals.{test-done}
 use Rattle.shapes.specs.Shape.{ofFormat}
 use Rattle.rows.specs.Row.{rowNumbers}
-use Rattle.rows.specs.Calls.{buffers, getRowOf}
-use Rattle.rows.proofs.FitLaws.{RowFits, fits-facts, f32-fits, bf16-fits, int8-fits, int4-fits}
+use Rattle.rows.specs.Calls.{buffers, tells, getRowOf}
+use Rattle.rows.proofs.FitLaws.{RowFits, fits-facts, tried-done, f32-fits, bf16-fits, int8-fits, int4-fits}
 use Rattle.rows.proofs.get_row.Statement.{statement}
 use Rattle.rows.proofs.get_row.Tie as tie
 
@@ -19,7 +18,7 @@ rows-fit-requires : tie.Need-rows-fit-requires
 rows-fit-requires c κs = search needs
 
 returns : tie.Need-returns
-unfolding getRowOf outcome lowest
+unfolding getRowOf
 returns c = rw (failed (c .before .rows-fit .ensures) (c .if1 .taken))
 
 -- past the test the row fits, and the call is done
@@ -31,9 +30,9 @@ fits c = fits-facts (passed (c .before .rows-fit .ensures) (c .if1 .left))
 done : (c : tie.Else1) {x : List ℕ}
     → let a = c .before .before .before .before .before .args in
     x ≡ rowNumbers (a .format) (length (a .out .now)) (a .cells .now) (a .scales .now)
-    → record { reply = 0; left = x } ≡ getRowOf (a .format) (buffers (a .cells .now) (a .scales .now)) (a .out .now)
+    → tells true x ≡ getRowOf (a .format) (buffers (a .cells .now) (a .scales .now)) (a .out .now)
 unfolding getRowOf
-done c = test-done 7 _ _ (passed (c .before .rows-fit .ensures) (c .if1 .left))
+done c = tried-done _ _ (passed (c .before .rows-fit .ensures) (c .if1 .left))
 
 get-f32-requires : tie.Need-get-f32-requires
 get-f32-requires c κs = f32-fits (rw (c .before .match .keys1) at (fits (c .before .before))) .0

@@ -1,17 +1,16 @@
 -- Past the test each arm knows the number of the format, and with it the lengths that the format asks for.
 use mathlib.Core.Path.{_≡_}
+use mathlib.Core.Bool.{true}
 use mathlib.Core.List.{List}
 use Prim.Native.Nat.{ℕ}
 use native.Mathlib.Omega.{arith}
 use borrow.Author.Needs.{needs}
 use lib.ListN.{length}
-use Rattle.replies.specs.Outcome.{lowest, outcome}
 use Rattle.replies.proofs.Flags.{passed, failed}
-use Rattle.replies.proofs.Refusals.{test-done}
 use Rattle.shapes.specs.Shape.{ofFormat}
 use Rattle.rows.specs.Row.{rowCells, rowScales}
-use Rattle.rows.specs.Calls.{buffers, putRowOf}
-use Rattle.rows.proofs.FitLaws.{RowFits, fits-facts, f32-fits, bf16-fits, int8-fits, int4-fits}
+use Rattle.rows.specs.Calls.{buffers, tells, putRowOf}
+use Rattle.rows.proofs.FitLaws.{RowFits, fits-facts, tried-done, f32-fits, bf16-fits, int8-fits, int4-fits}
 use Rattle.rows.proofs.RowLaws.{empty}
 use Rattle.rows.proofs.put_row.Statement.{statement}
 use Rattle.rows.proofs.put_row.Tie as tie
@@ -20,7 +19,7 @@ rows-fit-requires : tie.Need-rows-fit-requires
 rows-fit-requires c κs = search needs
 
 returns : tie.Need-returns
-unfolding putRowOf outcome lowest
+unfolding putRowOf
 returns c = rw (failed (c .before .rows-fit .ensures) (c .if1 .taken))
 
 -- past the test the row fits, and the call is done
@@ -33,9 +32,9 @@ done : (c : tie.Else1) {x y : List ℕ}
     → let a = c .before .before .before .before .before .args in
     x ≡ rowCells (a .format) (a .run .now)
     → y ≡ rowScales (a .format) (a .run .now)
-    → record { reply = 0; left = buffers x y } ≡ putRowOf (a .format) (a .run .now) (buffers (a .cells .now) (a .scales .now))
+    → tells true (buffers x y) ≡ putRowOf (a .format) (a .run .now) (buffers (a .cells .now) (a .scales .now))
 unfolding putRowOf
-done c p q = test-done 7 _ _ (passed (c .before .rows-fit .ensures) (c .if1 .left)) (rw (p, q))
+done c p q = tried-done _ _ (passed (c .before .rows-fit .ensures) (c .if1 .left)) (rw (p, q))
 
 put-f32-requires : tie.Need-put-f32-requires
 put-f32-requires c κs =

@@ -6,9 +6,8 @@ use native.Mathlib.Omega.{arith}
 use borrow.Author.Needs.{needs}
 use borrow.Author.Tests.{eq-eqb, ne-eqb}
 use lib.ListN.{length}
-use Rattle.replies.specs.Outcome.{lowest, outcome}
 use Rattle.replies.proofs.Flags.{both-true, passed, failed}
-use Rattle.replies.proofs.Refusals.{test-done}
+use Rattle.rows.proofs.FitLaws.{tried-done}
 use Rattle.shapes.specs.Shape.{width}
 use Rattle.layers.specs.Calls.{layerFits, numbersFit, putLayerOf}
 use Rattle.layers.proofs.SizeLaws.{numbers-few}
@@ -20,7 +19,7 @@ layer-fits-requires : tie.Need-layer-fits-requires
 layer-fits-requires c κs = search needs
 
 returns : tie.Need-returns
-unfolding putLayerOf outcome lowest
+unfolding putLayerOf
 returns c = rw (failed (c .before .layer-fits .ensures) (c .if1 .taken))
 
 -- past the first test the layer fits, and its positions have few numbers
@@ -45,12 +44,12 @@ mul-numbers-2 : tie.Need-mul-numbers-2
 mul-numbers-2 c = omega (arith, few (c .before .before))
 
 returns-2 : tie.Need-returns-2
-unfolding putLayerOf numbersFit outcome lowest
+unfolding putLayerOf numbersFit
 returns-2 c =
     rw (fits (c .before .before .before), ne-eqb _ _ (c .if2 .taken))
 
 returns-3 : tie.Need-returns-3
-unfolding putLayerOf numbersFit outcome lowest
+unfolding putLayerOf numbersFit
 returns-3 c =
     rw (
       fits (c .before .before .before .before),
@@ -74,7 +73,7 @@ unfolding putLayerOf numbersFit
 returns-4 c =
     let k = c .before .before .before .before .before .before .before in
     let y = c .before .before .before .before .put-sides .ensures in
-    test-done 7 _ _
+    tried-done _ _
     (both-true (fits (k .before .before .before .before))
     (both-true (eq-eqb _ _ (k .before .if2 .left)) (eq-eqb _ _ (k .if3 .left))))
     (rw (y .0, y .1))
