@@ -1,26 +1,17 @@
 -- What the tests of a block say: its rows lie in it, each is a block of its own, and has the lengths of its format.
 -- Each holds by the tests, one by one.
-use mathlib.Core.Path.{_≡_, refl}
+use mathlib.Core.Path.{_≡_}
 use mathlib.Core.Bool.{true}
 use mathlib.Core.List.{List}
 use Prim.Native.Nat.{ℕ, _+_, _-_, _*_, _≤_, _<_}
 use native.Mathlib.Omega.{arith}
-use borrow.Author.Tests.{eqb-true, ne-eqb, not-false}
+use borrow.Author.Tests.{eqb-true, ne-eqb}
 use Rattle.lists.specs.Chunks.{part}
 use Rattle.lists.proofs.Part.{room}
-use Rattle.replies.specs.Outcome.{lowest}
-use Rattle.replies.proofs.Refusals.{lowest-none}
 use Rattle.shapes.specs.Shape.{cellBytes, scaleWords}
 use Rattle.rows.proofs.FitLaws.{RowsFit, fits-facts, facts-fit, row-of, f32-fits, int4-fits}
 use Rattle.blocks.specs.Order.{hasScores}
-use Rattle.blocks.specs.Block.{blockRefusals}
 use Rattle.blocks.specs.Fits.{Rows, IsF32, IsInt4}
-
--- what reply 0 says of a call's arguments
-pub rows-there : (format d m cells scales : ℕ) → lowest (blockRefusals format d m cells scales) ≡ 0 → Rows format d m cells scales
-rows-there format d m cells scales z =
-    let t = lowest-none 0 (blockRefusals format d m cells scales) refl z in
-    (not-false _ (t .0), not-false _ (t .1 .0))
 
 -- row p lies in the cells and in the scale words, where a row has r of those and v of these
 row-in : (b : ℕ) {m p r size : ℕ} → r ≡ b → size ≡ m * b → p < m → p * r + r ≤ size

@@ -1,6 +1,7 @@
--- The block that is lent for a head is accepted, and its scores and sums are those of the head.
+-- The block that is lent for a head fits, and its scores and sums are those of the head.
 -- It holds since each of its rows is the one at the paper's place.
-use mathlib.Core.Path.{_≡_, refl, ap, _∙_}
+use mathlib.Core.Path.{_≡_, refl, _∙_}
+use mathlib.Core.Bool.{Bool, true}
 use mathlib.Core.List.{List}
 use Prim.Native.Nat.{ℕ, _-_, _≤_, _<_}
 use native.Mathlib.Nat.{zero-mul}
@@ -8,8 +9,7 @@ use native.Mathlib.Omega.{arith}
 use lib.ListN.{length}
 use lib.Ieee.{Float}
 use Rattle.lists.specs.Chunks.{part}
-use Rattle.replies.specs.Outcome.{Outcome, lowest, outcome}
-use Rattle.replies.proofs.Refusals.{outcome-done}
+use Rattle.replies.proofs.Flags.{both-true}
 use Rattle.shapes.specs.declared.Shape.{Shape}
 use Rattle.shapes.specs.Shape.{bytesOf, wordsOf}
 use Rattle.shapes.proofs.ShapeLaws.{limits-facts}
@@ -17,10 +17,10 @@ use Rattle.layers.specs.Layer.{place}
 use Rattle.layers.specs.Calls.{placeOf}
 use Rattle.layers.proofs.SizeLaws.{cells-most, words-most}
 use Rattle.layers.proofs.SpanLaws.{PlaceIn, placed, place-in, place-small, block-length, block-row}
-use Rattle.rows.specs.Calls.{Buffers, buffers}
-use Rattle.rows.proofs.FitLaws.{RowsFit, facts-fit}
+use Rattle.rows.specs.Calls.{Buffers, buffers, tells}
+use Rattle.rows.proofs.FitLaws.{RowsFit, facts-fit, tried-left}
 use Rattle.cells.specs.Calls.{cellsAt, scalesAt}
-use Rattle.blocks.specs.Block.{cellsOf, scalesOf, blockScores, blockSums, blockRefusals, blockScoresOf, blockSumsOf}
+use Rattle.blocks.specs.Block.{cellsOf, scalesOf, blockScores, blockSums, blockFits, blockScoresOf, blockSumsOf}
 use Rattle.blocks.proofs.OrderLaws.{scores-same, sums-same}
 use Rattle.heads.specs.Calls.{scoresAt, termAt, sumsAt}
 use Rattle.heads.specs.Fits.{InHead}
@@ -108,9 +108,8 @@ module _ {s : Shape} {l side h given m a b e f : ℕ} (cells scales : List ℕ) 
         scale-words = rw (k .size) (block-length scales-in scales (q .scales-from) (q .scales-to) (k .scale-size));
       }
 
-  accepted : lowest (blockRefusals (s .format) given m (length (block .cells)) (length (block .scales))) ≡ 0
-  unfolding lowest
-  accepted = rw (k .scored, facts-fit rows-fit)
+  fits : blockFits (s .format) given m (length (block .cells)) (length (block .scales)) ≡ true
+  fits = both-true (k .scored) (facts-fit rows-fit)
 
   cells-there : (p : ℕ) → p < m → cellsOf (s .format) given block p ≡ cellsAt s l side h p (buffers cells scales)
   cells-there p u = rw (k .size) (block-row cells-in cells (q .cells-from) (q .cells-to) p u)
@@ -118,27 +117,22 @@ module _ {s : Shape} {l side h given m a b e f : ℕ} (cells scales : List ℕ) 
   scales-there : (p : ℕ) → p < m → scalesOf (s .format) given block p ≡ scalesAt s l side h p (buffers cells scales)
   scales-there p u = rw (k .size) (block-row scales-in scales (q .scales-from) (q .scales-to) p u)
 
-  -- what the block's calls leave
-  left-by : (new old : List ℕ) {n : ℕ} {y : List ℕ}
-      → record { reply = n; left = y } ≡ outcome (blockRefusals (s .format) given m (length (block .cells)) (length (block .scales))) new old → y ≡ new
-  left-by new old o = ap (λ (x : Outcome (List ℕ)). x .left) (o ∙ outcome-done _ new old accepted)
-
 module _ {s : Shape} {l h a b e f : ℕ} (cells scales : List ℕ) where
-  pub scores-there : (query : List Float) (x : Float) (out : List ℕ) {n : ℕ} {y : List ℕ}
+  pub scores-there : (query : List Float) (x : Float) (out : List ℕ) {done : Bool} {y : List ℕ}
       → InHead s l h (length query) (length out) (length cells) (length scales) → Lent s l 0 h (length out) a b e f
-      → record { reply = n; left = y } ≡ blockScoresOf (s .format) query x (buffers (part a (b - a) cells) (part e (f - e) scales)) out
+      → tells done y ≡ blockScoresOf (s .format) query x (buffers (part a (b - a) cells) (part e (f - e) scales)) out
       → y ≡ scoresAt s l h query x (length out) (buffers cells scales)
   unfolding blockScoresOf blockScores scoresAt
   scores-there query x out k q o =
-      left-by cells scales k q _ out o
+      tried-left _ out (fits cells scales k q) o
       ∙ scores-same (length out) _ _ x (λ p u. rw (cells-there cells scales k q p u, scales-there cells scales k q p u))
 
-  pub sums-there : (weights : List Float) (out : List ℕ) {n : ℕ} {y : List ℕ}
+  pub sums-there : (weights : List Float) (out : List ℕ) {done : Bool} {y : List ℕ}
       → InHead s l h (length out) (length weights) (length cells) (length scales) → Lent s l 1 h (length weights) a b e f
-      → record { reply = n; left = y } ≡ blockSumsOf (s .format) weights (buffers (part a (b - a) cells) (part e (f - e) scales)) out
+      → tells done y ≡ blockSumsOf (s .format) weights (buffers (part a (b - a) cells) (part e (f - e) scales)) out
       → y ≡ sumsAt s l h weights (buffers cells scales)
   unfolding blockSumsOf blockSums sumsAt
   sums-there weights out k q o =
-      left-by cells scales k q _ out o
+      tried-left _ out (fits cells scales k q) o
       ∙ sums-same (length out) (length weights) _ (termAt s l h weights (buffers cells scales)) (λ p i u. rw (cells-there cells scales k q p u, scales-there cells scales k q p u))
       ∙ rw (k .size)

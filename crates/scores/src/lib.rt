@@ -3,13 +3,11 @@ pub(crate) mod fours;
 pub(crate) mod rest;
 pub(crate) mod words;
 
-use blocks::block_reply;
+use blocks::block_fits;
 use fours::cells_of;
 use fours::put_four;
 use fours::scales_of;
 use fours::score_four;
-use replies::Reply;
-use replies::number;
 use rest::score_rest;
 use shapes::cell_bytes;
 use shapes::scale_words;
@@ -17,12 +15,11 @@ ghost use mathlib.Core.Path.{_≡_};
 ghost use mathlib.Core.List.{_++_};
 ghost use Prim.Native.Nat.{_≤_};
 ghost use lib.ListN.{length, drop};
-ghost use Rattle.replies.specs.Outcome.{answered};
-ghost use Rattle.rows.specs.Calls.{buffers};
+ghost use Rattle.rows.specs.Calls.{buffers, tells};
 ghost use Rattle.blocks.specs.Block.{blockScores, blockScoresOf};
 ghost use Rattle.blocks.specs.Fits.{Rows};
 
-// Scores as many positions as `out` has places, under a query. The first half of the Rust's `decode_head_attention_f32` and `decode_head_attention_int4`.
+// Scores as many positions as `out` has places, under a query, and answers whether what is lent is such a block. The first half of the Rust's `decode_head_attention_f32` and `decode_head_attention_int4`.
 pub fn block_scores(
     format: u32,
     query: &[f32],
@@ -30,18 +27,18 @@ pub fn block_scores(
     cells: &[u8],
     scales: &[u32],
     out: &mut [u32],
-) -> Reply
+) -> bool
     ensures { λ r.
         ⌜
-        answered r (now (out .exit))
+        tells r (now (out .exit))
         ≡ blockScoresOf format (now (query .entry)) scale (buffers (now (cells .entry)) (now (scales .entry))) (now (out .entry))
         ⌝ }
 {
-    let reply = block_reply(format, query.len(), out.len(), cells.len(), scales.len());
-    if number(reply) == 0 {
-        score_rows(format, query, scale, cells, scales, out);
+    if !block_fits(format, query.len(), out.len(), cells.len(), scales.len()) {
+        return false;
     }
-    reply
+    score_rows(format, query, scale, cells, scales, out);
+    true
 }
 
 // Four rows at a time, and what is left row by row.

@@ -3,42 +3,39 @@ pub(crate) mod fours;
 pub(crate) mod rest;
 pub(crate) mod stored;
 
-use blocks::block_reply;
+use blocks::block_fits;
 use fours::add_f32_rows;
 use numbers::words::f32_to_word;
-use replies::Reply;
-use replies::number;
 use rest::add_rest;
 ghost use mathlib.Core.Path.{_≡_};
 ghost use mathlib.Core.List.{map};
 ghost use lib.ListN.{length, replicate};
 ghost use Rattle.lists.specs.Chunks.{turns};
 ghost use Rattle.numbers.specs.Word.{float, word};
-ghost use Rattle.replies.specs.Outcome.{answered};
-ghost use Rattle.rows.specs.Calls.{buffers};
+ghost use Rattle.rows.specs.Calls.{buffers, tells};
 ghost use Rattle.blocks.specs.Order.{added};
 ghost use Rattle.blocks.specs.Block.{blockTerm, blockSums, blockSumsOf};
 ghost use Rattle.blocks.specs.Fits.{Rows};
 
-// Sums as many positions as there are weights. The second half of the Rust's `decode_head_attention_f32` and `decode_head_attention_int4`.
+// Sums as many positions as there are weights, and answers whether what is lent is such a block. The second half of the Rust's `decode_head_attention_f32` and `decode_head_attention_int4`.
 pub fn block_sums(
     format: u32,
     weights: &[f32],
     cells: &[u8],
     scales: &[u32],
     out: &mut [u32],
-) -> Reply
+) -> bool
     ensures { λ r.
         ⌜
-        answered r (now (out .exit))
+        tells r (now (out .exit))
         ≡ blockSumsOf format (now (weights .entry)) (buffers (now (cells .entry)) (now (scales .entry))) (now (out .entry))
         ⌝ }
 {
-    let reply = block_reply(format, out.len(), weights.len(), cells.len(), scales.len());
-    if number(reply) == 0 {
-        sum_rows(format, weights, cells, scales, out);
+    if !block_fits(format, out.len(), weights.len(), cells.len(), scales.len()) {
+        return false;
     }
-    reply
+    sum_rows(format, weights, cells, scales, out);
+    true
 }
 
 // The sums grow in an array of floats, and leave as words.
