@@ -163,7 +163,9 @@ mod tests {
         assert!(nans.iter().all(|&nan| word_of(f32::from_bits(nan)) != nan));
         let quiet = |nan: &u32| nan & 0x0040_0000 != 0;
         for (sign, payload) in [(0, true), (0, false), (SIGN, true), (SIGN, false)] {
-            assert!(nans.iter().any(|nan| nan & SIGN == sign && quiet(nan) == payload));
+            assert!(nans
+                .iter()
+                .any(|nan| nan & SIGN == sign && quiet(nan) == payload));
         }
     }
 }

@@ -3,22 +3,22 @@
 use mathlib.Core.Path.{_≡_, refl, _∙_}
 use mathlib.Core.List.{List}
 use Prim.Native.Nat.{ℕ, _+_, _*_, _/_, _≤_, _<_}
-use native.Mathlib.Nat.{one-mul}
 use native.Mathlib.Omega.{arith}
 use lib.ListN.{length, getD}
 use lib.Seq.{getD-take, getD-drop}
 use lib.Ieee.{Float, nan}
 use Rattle.lists.specs.Chunks.{turns, part}
-use Rattle.lists.proofs.Part.{part-length, part-chunk}
+use Rattle.lists.proofs.Part.{part-length, part-part, part-chunk}
+use Rattle.lists.proofs.Tab.{tab-length, tab-same}
 use Rattle.lists.proofs.Turns.{turns-same, turns-add}
 use Rattle.shapes.specs.Shape.{ofFormat, cellBytes, scaleWords}
+use Rattle.rows.specs.Row.{f32At}
 use Rattle.rows.specs.Calls.{buffers}
 use Rattle.rows.proofs.FitLaws.{fits-facts}
 use Rattle.blocks.specs.Order.{f32Term, rowTerm, added}
 use Rattle.blocks.specs.Block.{blockTerm}
 use Rattle.blocks.specs.Fits.{Rows}
 use Rattle.blocks.proofs.PartLaws.{rows-inside, some-rows}
-use Rattle.blocks.proofs.FourLaws.{quarter}
 
 pub bytes : (d : ℕ) → d * 4 ≡ cellBytes 0 d
 unfolding cellBytes ofFormat
@@ -59,15 +59,51 @@ module _ (weights : List Float) (cells scales : List ℕ) (d : ℕ) (h : Rows 0 
       rw (turns-add p k addRow x, ← o)
       (e ∙ rw (eu, ea, bytes d, l, part-length p k weights b) (turns-same k _ _ y (λ i w. rw (part-term p k i w))))
 
+-- two rows of four, from row i on
+abbrev pub half : ℕ → List ℕ → List ℕ
+half i l = part (i * (length l / 4)) (2 * (length l / 4)) l
+
+-- number k of them is number d of row p, where it lies there
+row-number : (n : ℕ) (cells : List ℕ) {r : List ℕ} (i p k d : ℕ) → length cells / 4 ≡ n * 4 → r ≡ half i cells → d < n → k < 2 * n
+    → i * (n * 4) + k * 4 ≡ p * (n * 4) + d * 4 → f32At r k ≡ f32At (part (p * cellBytes 0 n) (cellBytes 0 n) cells) d
+row-number n cells i p k d q e b w s =
+    let x : k * 4 + 4 ≤ 2 * (n * 4) = omega arith in
+    let y : d * 4 + 4 ≤ n * 4 = omega arith in
+    rw (e, q, ← bytes n, part-part (i * (n * 4)) (2 * (n * 4)) (k * 4) 4 cells x, part-part (p * (n * 4)) (n * 4) (d * 4) 4 cells y, s)
+
+-- terms that agree, added
+added-same : (l : List Float) (t t′ : ℕ → Float) → ((i : ℕ) → i < length l → t i ≡ t′ i) → added t l ≡ added t′ l
+unfolding added
+added-same l t t′ e = tab-same (length l) _ _ (λ i b. rw (e i b))
+
+added-length : (t : ℕ → Float) (l : List Float) → length (added t l) ≡ length l
+unfolding added
+added-length t l = tab-length (length l) _
+
 -- the four terms of each sum are those of a block of four
-pub four-rows : (cells scales : List ℕ) (l : List Float) → Rows 0 (length l) 4 (length cells) (length scales)
-    → (weights : List Float) {r0 r1 r2 r3 : List ℕ} {y : List Float} → length weights ≡ 4
-    → r0 ≡ quarter 0 cells → r1 ≡ quarter 1 cells → r2 ≡ quarter 2 cells → r3 ≡ quarter 3 cells
-    → y
-    ≡ added (f32Term (getD weights 3 nan) r3)
-    (added (f32Term (getD weights 2 nan) r2) (added (f32Term (getD weights 1 nan) r1) (added (f32Term (getD weights 0 nan) r0) l)))
-    → y ≡ turns (length weights) (λ p. added (blockTerm 0 weights (buffers cells scales) (length l) p)) l
-unfolding turns rowTerm added
-four-rows cells scales l h weights w e0 e1 e2 e3 o =
-    let q : length cells / 4 ≡ cellBytes 0 (length l) = omega (arith, fits-facts (h .1) .cell-bytes) in
-    rw (o, e0, e1, e2, e3, w, q, one-mul (cellBytes 0 (length l)))
+module _ (cells scales : List ℕ) (l : List Float) (h : Rows 0 (length l) 4 (length cells) (length scales)) (weights : List Float) where
+  abbrev with : ℕ → List Float → List Float
+  with p = added (blockTerm 0 weights (buffers cells scales) (length l) p)
+
+  with-row : (i p : ℕ) {r : List ℕ} (k : ℕ → ℕ) (x : List Float) → length x ≡ length l → r ≡ half i cells
+      → ((d : ℕ) → d < length l → (k d < 2 * length l) × (i * (length l * 4) + k d * 4 ≡ p * (length l * 4) + d * 4))
+      → added (λ d. f32Term (getD weights p nan) r (k d)) x ≡ with p x
+  unfolding rowTerm
+  with-row i p k x s e f =
+      let q : length cells / 4 ≡ length l * 4 = omega (arith, rw (← bytes (length l)) at (fits-facts (h .1) .cell-bytes)) in
+      added-same x _ _ (λ d b. let c : d < length l = omega arith in rw (row-number (length l) cells i p (k d) d q e c (f d c .0) (f d c .1)))
+
+  pub four-rows : {r0 r2 : List ℕ} {y : List Float} → length weights ≡ 4 → r0 ≡ half 0 cells → r2 ≡ half 2 cells
+      → y
+      ≡ added (λ d. f32Term (getD weights 3 nan) r2 (length l + d))
+      (added (f32Term (getD weights 2 nan) r2)
+      (added (λ d. f32Term (getD weights 1 nan) r0 (length l + d)) (added (f32Term (getD weights 0 nan) r0) l)))
+      → y ≡ turns (length weights) with l
+  unfolding turns
+  four-rows {r0} {r2} w e0 e2 o =
+      let n = length l in
+      let s0 = with-row 0 0 {r = r0} (λ d. d) l refl e0 (λ d b. (omega arith, omega arith)) in
+      let s1 = with-row 0 1 {r = r0} (λ d. n + d) (with 0 l) (simp added-length) e0 (λ d b. (omega arith, omega arith)) in
+      let s2 = with-row 2 2 {r = r2} (λ d. d) (with 1 (with 0 l)) (simp added-length) e2 (λ d b. (omega arith, omega arith)) in
+      let s3 = with-row 2 3 {r = r2} (λ d. n + d) (with 2 (with 1 (with 0 l))) (simp added-length) e2 (λ d b. (omega arith, omega arith)) in
+      o ∙ rw (s0, s1, s2, s3, w)

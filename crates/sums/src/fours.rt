@@ -72,14 +72,10 @@ fn add_four(
             weights[1],
             weights[2],
             weights[3],
-            cells_of(cells, c, 0, 1),
-            cells_of(cells, c, 1, 1),
-            cells_of(cells, c, 2, 1),
-            cells_of(cells, c, 3, 1),
-            cells_of(next, c, 0, 1),
-            cells_of(next, c, 1, 1),
-            cells_of(next, c, 2, 1),
-            cells_of(next, c, 3, 1),
+            cells_of(cells, c, 0, 2),
+            cells_of(cells, c, 2, 2),
+            cells_of(next, c, 0, 2),
+            cells_of(next, c, 2, 2),
             out,
         );
     }
@@ -97,38 +93,33 @@ fn cells_of(cells: &[u8], c: usize, p: usize, n: usize) -> &[u8]
 }
 
 // Four F32 rows without a NaN: each sum takes their terms in order, while the NaNs of the next four rows are counted.
+// Rows are lent two by two: beside eight places the back end has no room to take eight numbers at a time.
 fn add_plain(
     w0: f32,
     w1: f32,
     w2: f32,
     w3: f32,
     r0: &[u8],
-    r1: &[u8],
     r2: &[u8],
-    r3: &[u8],
     n0: &[u8],
-    n1: &[u8],
     n2: &[u8],
-    n3: &[u8],
     out: &mut [f32],
 ) -> u32
-    requires { ⌜ IsF32 (length (now out)) (length (now r0)) × (some (length (now out)) (λ d. nanBits binary32 (f32At (now r0) d)) ≡ false) ⌝ }
-    requires { ⌜ IsF32 (length (now out)) (length (now r1)) × (some (length (now out)) (λ d. nanBits binary32 (f32At (now r1) d)) ≡ false) ⌝ }
-    requires { ⌜ IsF32 (length (now out)) (length (now r2)) × (some (length (now out)) (λ d. nanBits binary32 (f32At (now r2) d)) ≡ false) ⌝ }
-    requires { ⌜ IsF32 (length (now out)) (length (now r3)) × (some (length (now out)) (λ d. nanBits binary32 (f32At (now r3) d)) ≡ false) ⌝ }
     requires { ⌜
-        IsF32 (length (now out)) (length (now n0))
-        × IsF32 (length (now out)) (length (now n1))
-        × IsF32 (length (now out)) (length (now n2))
-        × IsF32 (length (now out)) (length (now n3))
-        × (length (now out) ≤ 256)
+        IsF32 (2 * length (now out)) (length (now r0))
+        × (some (2 * length (now out)) (λ d. nanBits binary32 (f32At (now r0) d)) ≡ false)
         ⌝ }
+    requires { ⌜
+        IsF32 (2 * length (now out)) (length (now r2))
+        × (some (2 * length (now out)) (λ d. nanBits binary32 (f32At (now r2) d)) ≡ false)
+        ⌝ }
+    requires { ⌜ IsF32 (2 * length (now out)) (length (now n0)) × IsF32 (2 * length (now out)) (length (now n2)) × (length (now out) ≤ 256) ⌝ }
     ensures sums { λ _.
         ⌜
         now (out .exit)
-        ≡ added (f32Term w3 (now (r3 .entry)))
+        ≡ added (λ d. f32Term w3 (now (r2 .entry)) (length (now (out .entry)) + d))
         (added (f32Term w2 (now (r2 .entry)))
-        (added (f32Term w1 (now (r1 .entry)))
+        (added (λ d. f32Term w1 (now (r0 .entry)) (length (now (out .entry)) + d))
         (added (f32Term w0 (now (r0 .entry))) (now (out .entry)))))
         ⌝ }
     ensures counted { λ r.
@@ -138,20 +129,22 @@ fn add_plain(
         (λ d nans.
         nans
         + (cond (nanBits binary32 (f32At (now (n0 .entry)) d)) 1 0
-        + cond (nanBits binary32 (f32At (now (n1 .entry)) d)) 1 0
+        + cond (nanBits binary32 (f32At (now (n0 .entry)) (length (now (out .entry)) + d))) 1 0
         + cond (nanBits binary32 (f32At (now (n2 .entry)) d)) 1 0
-        + cond (nanBits binary32 (f32At (now (n3 .entry)) d)) 1 0))
+        + cond (nanBits binary32 (f32At (now (n2 .entry)) (length (now (out .entry)) + d))) 1 0))
         0
         ⌝ }
 {
+    let n = out.len();
     let mut nans = 0;
     let mut d = 0;
     while d < out.len() {
         let sum = out[d];
+        let e = n + d;
         let t0 = with_term(Tally { sum, nans }, w0, r0, n0, d);
-        let t1 = with_term(t0, w1, r1, n1, d);
+        let t1 = with_term(t0, w1, r0, n0, e);
         let t2 = with_term(t1, w2, r2, n2, d);
-        let t3 = with_term(t2, w3, r3, n3, d);
+        let t3 = with_term(t2, w3, r2, n2, e);
         out[d] = t3.sum;
         nans = t3.nans;
         d += 1;

@@ -49,9 +49,18 @@ impl Row {
 
 /// Every row: the kernels of the bars, and those of them that take few positions too, on layers that have few.
 fn rows() -> Vec<Row> {
-    let at = |size| BARS.iter().map(move |Bar { kernel, .. }| Row { kernel: *kernel, size });
-    let few = FEW.into_iter().flat_map(|positions| at(Size { positions, ..SIZE }));
-    at(SIZE).chain(few.filter(|row| matches!(row.kernel.call, Call::Scores | Call::Sums))).collect()
+    let at = |size| {
+        BARS.iter().map(move |Bar { kernel, .. }| Row {
+            kernel: *kernel,
+            size,
+        })
+    };
+    let few = FEW
+        .into_iter()
+        .flat_map(|positions| at(Size { positions, ..SIZE }));
+    at(SIZE)
+        .chain(few.filter(|row| matches!(row.kernel.call, Call::Scores | Call::Sums)))
+        .collect()
 }
 
 /// Runs every row once each way and has its instructions counted.
@@ -183,7 +192,10 @@ mod tests {
     #[test]
     fn a_line_has_both_counts_for_a_number_and_their_ratio() {
         let rows = rows();
-        for (row, name) in [(rows[0], "scores F32"), (rows[BARS.len()], "scores F32 at 16")] {
+        for (row, name) in [
+            (rows[0], "scores F32"),
+            (rows[BARS.len()], "scores F32 at 16"),
+        ] {
             let numbers = row.kernel.numbers(&row.size) as u64;
             let mut counts = Counts::new();
             counts.insert(row.label(Way::Ours), 3 * numbers);

@@ -3,7 +3,7 @@ use mathlib.Core.Path.{_∙_}
 use native.Mathlib.Omega.{arith}
 use borrow.Author.Needs.{needs}
 use lib.ListN.{length}
-use Rattle.sums.proofs.NanLaws.{counted-plain, four-size, scanned, plain-row, next-row}
+use Rattle.sums.proofs.NanLaws.{counted-plain, four-size, scanned, plain-rows, next-rows}
 use Rattle.sums.proofs.SumLaws.{four-rows}
 use Rattle.sums.proofs.fours.add_four.Statement.{statement}
 use Rattle.sums.proofs.fours.add_four.Tie as tie
@@ -30,42 +30,22 @@ cells-of-requires-3 : tie.Need-cells-of-requires-3
 cells-of-requires-3 c κs = search needs
 
 cells-of-requires-4 : tie.Need-cells-of-requires-4
-cells-of-requires-4 c κs = search needs
-
-cells-of-requires-5 : tie.Need-cells-of-requires-5
-cells-of-requires-5 c κs = search needs
-
-cells-of-requires-6 : tie.Need-cells-of-requires-6
-cells-of-requires-6 c κs = search needs
-
-cells-of-requires-7 : tie.Need-cells-of-requires-7
-cells-of-requires-7 c κs = search needs
-
-cells-of-requires-8 : tie.Need-cells-of-requires-8
-cells-of-requires-8 c κs = omega (arith, c .before .before .before .before .before .before .before .before .before .before .before .before .before .before .before .before .before .pre .0 .2)
+cells-of-requires-4 c κs = omega (arith, c .before .before .before .before .before .before .before .before .before .before .before .before .before .pre .0 .2)
 
 add-plain-requires : tie.Need-add-plain-requires
 add-plain-requires c κs =
-    let s = c .before .before .before .before .before .before .before .before .before .before .before .before .before .before .before .before .before .before .before in
+    let s = c .before .before .before .before .before .before .before .before .before .before .before .before .before .before .before in
     let h = s .pre .0 in
-    let plain = s .pre .1 (c .before .before .before .before .before .before .before .before .before .before .before .before .before .if1 .taken) in
-    let row = plain-row (s .args .cells .now) (s .args .scales .now) (s .args .out .now) (h .1) in
-    let behind = next-row (s .args .cells .now) (s .args .scales .now) (s .args .out .now) (h .1) (s .args .next .now) (h .2) in (
-      row 0 _ (omega arith) plain (c .before .before .before .before .before .before .before .before .cells-of .ensures),
+    let plain = s .pre .1 (c .before .before .before .before .before .before .before .before .before .if1 .taken) in
+    let rows = plain-rows (s .args .cells .now) (s .args .scales .now) (s .args .out .now) (h .1) in
+    let behind = next-rows (s .args .cells .now) (s .args .scales .now) (s .args .out .now) (h .1) (s .args .next .now) (h .2) in (
+      rows 0 _ (omega arith) plain (c .before .before .before .before .cells-of .ensures),
       (
-        row 1 _ (omega arith) plain (c .before .before .before .before .before .before .before .cells-of2 .ensures),
+        rows 2 _ (omega arith) plain (c .before .before .before .cells-of2 .ensures),
         (
-          row 2 _ (omega arith) plain (c .before .before .before .before .before .before .cells-of3 .ensures),
-          (
-            row 3 _ (omega arith) plain (c .before .before .before .before .before .cells-of4 .ensures),
-            (
-              behind 0 _ (omega arith) (c .before .before .before .before .cells-of5 .ensures),
-              behind 1 _ (omega arith) (c .before .before .before .cells-of6 .ensures),
-              behind 2 _ (omega arith) (c .before .before .cells-of7 .ensures),
-              behind 3 _ (omega arith) (c .before .cells-of8 .ensures),
-              four-size _ _ _ (h .1) .1,
-            ),
-          ),
+          behind 0 _ (omega arith) (c .before .before .cells-of3 .ensures),
+          behind 2 _ (omega arith) (c .before .cells-of4 .ensures),
+          four-size _ _ _ (h .1) .1,
         ),
       ),
     )
@@ -75,17 +55,14 @@ same-length c = search needs
 
 returns : tie.Need-returns
 returns c =
-    let s = c .before .before .before .before .before .before .before .before .before .before .before .before .before .before .before .before .before .before .before .before .before .before in
+    let k = c .before .before .before in
+    let s = k .before .before .before .before .before .before .before .before .before .before .before .before .before .before .before in
     let h = s .pre .0 in
     let four = four-size _ _ _ (h .1) in (
       four-rows (s .args .cells .now) (s .args .scales .now) (s .args .out .now) (h .1) (s .args .weights .now) (h .0)
-          (c .before .before .before .before .before .before .before .before .before .before .before .cells-of .ensures) (c .before .before .before .before .before .before .before .before .before .before .cells-of2 .ensures)
-          (c .before .before .before .before .before .before .before .before .before .cells-of3 .ensures) (c .before .before .before .before .before .before .before .before .cells-of4 .ensures)
-          (c .before .before .add-plain .ensures .0),
-      scanned (length (s .args .out .now)) (s .args .next .now) (h .2 ∙ four .0)
-          (rw (h .2) (c .before .before .before .before .before .before .before .cells-of5 .ensures)) (rw (h .2) (c .before .before .before .before .before .before .cells-of6 .ensures))
-          (rw (h .2) (c .before .before .before .before .before .cells-of7 .ensures)) (rw (h .2) (c .before .before .before .before .cells-of8 .ensures))
-          (c .before .before .add-plain .ensures .1),
+          (k .before .before .before .before .cells-of .ensures) (k .before .before .before .cells-of2 .ensures) (c .before .before .add-plain .ensures .0),
+      scanned (length (s .args .out .now)) (s .args .next .now) (h .2 ∙ four .0) (rw (h .2) (k .before .before .cells-of3 .ensures))
+          (rw (h .2) (k .before .cells-of4 .ensures)) (c .before .before .add-plain .ensures .1),
     )
 
 add-rest-requires : tie.Need-add-rest-requires
@@ -120,10 +97,6 @@ add-four-spec =
     cells-of-requires-2
     cells-of-requires-3
     cells-of-requires-4
-    cells-of-requires-5
-    cells-of-requires-6
-    cells-of-requires-7
-    cells-of-requires-8
     add-plain-requires
     same-length
     returns

@@ -15,29 +15,29 @@ use Rattle.sums.proofs.fours.add_plain.Statement.{statement}
 use Rattle.sums.proofs.fours.add_plain.Tie as tie
 
 abbrev Inv-loop : tie.InvT-loop
-Inv-loop w0 w1 w2 w3 r0 r1 r2 r3 n0 n1 n2 n3 out₀ nans₀ d₀ out nans d =
+Inv-loop w0 w1 w2 w3 r0 r2 n0 n2 out₀ n nans₀ d₀ out nans d =
     (d ≤ length out₀)
-    × (out ≡ tab d (fourTerms (f32Term w0 r0) (f32Term w1 r1) (f32Term w2 r2) (f32Term w3 r3) out₀) ++ drop d out₀)
-    × (nans ≡ turns d (λ i sum. sum + fourNans n0 n1 n2 n3 i) 0)
+    × (out ≡ tab d (fourTerms (f32Term w0 r0) (λ i. f32Term w1 r0 (length out₀ + i)) (f32Term w2 r2) (λ i. f32Term w3 r2 (length out₀ + i)) out₀) ++ drop d out₀)
+    × (nans ≡ turns d (λ i sum. sum + fourNans (length out₀) n0 n2 i) 0)
     × (length out ≡ length out₀)
 
 abbrev μ-loop : tie.MeasureT-loop
-μ-loop w0 w1 w2 w3 r0 r1 r2 r3 n0 n1 n2 n3 out₀ nans₀ d₀ out nans d = length out₀ - d
+μ-loop w0 w1 w2 w3 r0 r2 n0 n2 out₀ n nans₀ d₀ out nans d = length out₀ - d
 
 -- the function's entry, from the loop
 abbrev start : tie.At-loop Inv-loop μ-loop → tie.Start Inv-loop μ-loop
-start c = c .before .before .before .before .before .before .before .before .before .before
+start c = c .before .before .before .before .before .before
 
 -- so far four at most were counted at each place
 few : (c : tie.At-loop Inv-loop μ-loop) → c .loop .nans ≤ c .loop .d * 4
 few c =
     let a = start c .args in
-    rw (c .loop .inv .2)
-    (sum-most (c .loop .d) 4 (fourNans (a .n0 .now) (a .n1 .now) (a .n2 .now) (a .n3 .now)) (four-at-most (a .n0 .now) (a .n1 .now) (a .n2 .now) (a .n3 .now)))
+    let n = length (a .out .now) in
+    rw (c .loop .inv .2) (sum-most (c .loop .d) 4 (fourNans n (a .n0 .now) (a .n2 .now)) (four-at-most n (a .n0 .now) (a .n2 .now)))
 
 -- and there are few places
 small : (c : tie.At-loop Inv-loop μ-loop) → length (start c .args .out .now) ≤ 256
-small c = start c .pre .1 .1 .1 .1 .4
+small c = start c .pre .1 .1 .2
 
 loop-holds : tie.Need-loop-holds Inv-loop μ-loop
 unfolding tab turns
@@ -49,37 +49,39 @@ mul-sum c = search needs
 slice-read-sum : tie.Need-slice-read-sum Inv-loop μ-loop
 slice-read-sum c = search needs
 
+add-e : tie.Need-add-e Inv-loop μ-loop
+add-e c = omega (arith, c .before .loop-test .taken, small (c .before .before))
+
 with-term-requires : tie.Need-with-term-requires Inv-loop μ-loop
 with-term-requires c κs =
     let a = start (c .before .before) in
-    let n = a .pre .1 .1 .1 .1 in
     let f = few (c .before .before) in
-    term-fits _ _ (a .args .n0 .now) (a .pre .0) (n .0) (omega arith) (omega arith)
+    term-fits _ _ (a .args .n0 .now) (a .pre .0) (a .pre .1 .1 .0) (omega arith) (omega arith)
 
 with-term-requires-2 : tie.Need-with-term-requires-2 Inv-loop μ-loop
 with-term-requires-2 c κs =
     let a = start (c .before .before .before) in
-    let n = a .pre .1 .1 .1 .1 in
     let f = few (c .before .before .before) in
     let d = c .before .before .before .loop .d in
-    term-fits _ _ (a .args .n1 .now) (a .pre .1 .0) (n .1) (omega arith) (omega (arith, one-at-most (a .args .n0 .now) d))
+    term-fits _ _ (a .args .n0 .now) (a .pre .0) (a .pre .1 .1 .0) (omega arith) (omega (arith, one-at-most (a .args .n0 .now) d))
 
 with-term-requires-3 : tie.Need-with-term-requires-3 Inv-loop μ-loop
 with-term-requires-3 c κs =
     let a = start (c .before .before .before .before) in
-    let n = a .pre .1 .1 .1 .1 in
     let f = few (c .before .before .before .before) in
     let d = c .before .before .before .before .loop .d in
-    term-fits _ _ (a .args .n2 .now) (a .pre .1 .1 .0) (n .2) (omega arith) (omega (arith, one-at-most (a .args .n0 .now) d, one-at-most (a .args .n1 .now) d))
+    let n = length (a .args .out .now) in
+    term-fits _ _ (a .args .n2 .now) (a .pre .1 .0) (a .pre .1 .1 .1) (omega arith)
+    (omega (arith, one-at-most (a .args .n0 .now) d, one-at-most (a .args .n0 .now) (n + d)))
 
 with-term-requires-4 : tie.Need-with-term-requires-4 Inv-loop μ-loop
 with-term-requires-4 c κs =
     let a = start (c .before .before .before .before .before) in
-    let n = a .pre .1 .1 .1 .1 in
     let f = few (c .before .before .before .before .before) in
     let d = c .before .before .before .before .before .loop .d in
-    term-fits _ _ (a .args .n3 .now) (a .pre .1 .1 .1 .0) (n .3) (omega arith)
-    (omega (arith, one-at-most (a .args .n0 .now) d, one-at-most (a .args .n1 .now) d, one-at-most (a .args .n2 .now) d))
+    let n = length (a .args .out .now) in
+    term-fits _ _ (a .args .n2 .now) (a .pre .1 .0) (a .pre .1 .1 .1) (omega arith)
+    (omega (arith, one-at-most (a .args .n0 .now) d, one-at-most (a .args .n0 .now) (n + d), one-at-most (a .args .n2 .now) d))
 
 mul-out : tie.Need-mul-out Inv-loop μ-loop
 mul-out c = omega (arith, c .before .before .before .before .before .loop-test .taken, small (c .before .before .before .before .before .before))
@@ -124,6 +126,7 @@ add-plain-spec =
     loop-holds
     mul-sum
     slice-read-sum
+    add-e
     with-term-requires
     with-term-requires-2
     with-term-requires-3
