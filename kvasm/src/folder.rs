@@ -1,6 +1,8 @@
-//! The folder that the program `callfiles` is run on, and what it has to print.
+//! The folder that the program `callfiles` is run on, what it has to print, and `kvcalls` on each of its files.
+use crate::judge;
 use crate::list::{self, Case};
 use crate::model::{self, Played};
+use crate::runs::Program;
 use std::path::Path;
 use std::{fs, io};
 
@@ -32,6 +34,24 @@ pub fn write(folder: &Path) -> io::Result<()> {
     }
     fs::write(folder.join("stdin"), made.stdin)?;
     fs::write(folder.join("stdout"), made.stdout)
+}
+
+/// Runs a program on each file that stands in the folder; how many there are, and a line for each that differs.
+pub fn hold(program: &Program, folder: &Path) -> io::Result<(usize, Vec<String>)> {
+    let entries = fs::read_dir(folder.join("data"))?;
+    let paths: io::Result<Vec<_>> = entries.map(|entry| Ok(entry?.path())).collect();
+    let mut paths = paths?;
+    paths.sort();
+    let mut differing = Vec::new();
+    for path in &paths {
+        let file = fs::read(path)?;
+        let run = program.run(&[&file])?;
+        let wanted = model::play(&file).output();
+        if let Some(how) = judge::difference(&wanted, run.as_ref(), program.is_wrapped) {
+            differing.push(format!("{}: {how}", path.display()));
+        }
+    }
+    Ok((paths.len(), differing))
 }
 
 fn written(case: Case) -> Option<(String, Vec<u8>)> {

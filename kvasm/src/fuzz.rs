@@ -1,8 +1,9 @@
 //! Holds a program to the model on random files.
 use crate::dice::Dice;
 use crate::draws;
+use crate::judge;
 use crate::model;
-use crate::runs::{Program, Run};
+use crate::runs::Program;
 use crate::tally::Tally;
 use std::io;
 use std::sync::atomic::{AtomicU64, Ordering};
@@ -11,8 +12,6 @@ use std::thread;
 const THREADS: usize = 2;
 /// A program that so often does not end is tried no further.
 const MOST_ENDLESS: u64 = 4;
-/// Bytes of a line that are shown.
-const SHOWN: usize = 80;
 /// One file of so many comes in two pieces.
 const IN_PIECES: u64 = 32;
 
@@ -82,10 +81,7 @@ impl Trial {
             _ => self.program.run(&[&file])?,
         };
         outcome.endless += u64::from(run.is_none());
-        let how = match run {
-            None => Some("the program does not end in time".into()),
-            Some(run) => difference(&played.output(), &run, self.program.is_wrapped),
-        };
+        let how = judge::difference(&played.output(), run.as_ref(), self.program.is_wrapped);
         if let Some(how) = how {
             outcome.differing += 1;
             outcome.keep(Difference { number, file, how });
@@ -109,52 +105,6 @@ impl Outcome {
         self.differing += other.differing;
         if let Some(difference) = other.smallest {
             self.keep(difference);
-        }
-    }
-}
-
-/// How a run differs from what is wanted; under a wrapper, which may speak, standard error is free.
-fn difference(wanted: &str, run: &Run, is_wrapped: bool) -> Option<String> {
-    if run.output != wanted.as_bytes() {
-        return Some(differing_line(wanted.as_bytes(), &run.output));
-    }
-    if !run.status.success() {
-        return Some(format!("the program ends with {}", run.status));
-    }
-    if !is_wrapped && !run.errors.is_empty() {
-        let first = run.errors.split_inclusive(feed).next();
-        return Some(format!("standard error has {}", shown(first)));
-    }
-    None
-}
-
-/// The first line that differs; the line feed belongs to it.
-fn differing_line(wanted: &[u8], printed: &[u8]) -> String {
-    let mut wanted = wanted.split_inclusive(feed);
-    let mut printed = printed.split_inclusive(feed);
-    for number in 1.. {
-        let (wanted, printed) = (wanted.next(), printed.next());
-        if wanted != printed {
-            let (wanted, printed) = (shown(wanted), shown(printed));
-            return format!("line {number}: wanted {wanted}, printed {printed}");
-        }
-    }
-    unreachable!("equal outputs are not asked about")
-}
-
-/// Whether a byte ends a line.
-fn feed(byte: &u8) -> bool {
-    *byte == b'\n'
-}
-
-/// A line in quotes, or as much of it as fits.
-fn shown(line: Option<&[u8]>) -> String {
-    match line {
-        None => "nothing".into(),
-        Some(line) => {
-            let front = &line[..line.len().min(SHOWN)];
-            let rest = if front.len() < line.len() { ".." } else { "" };
-            format!("{:?}{rest}", String::from_utf8_lossy(front))
         }
     }
 }

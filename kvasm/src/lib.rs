@@ -8,6 +8,7 @@ pub mod draws;
 pub mod folder;
 pub mod fuzz;
 pub mod history;
+pub mod judge;
 pub mod list;
 pub mod model;
 pub mod numbers;

@@ -71,12 +71,12 @@ impl Shape {
     }
 
     /// Cell bytes in all; asked of a shape whose sizes are within their limits, so that no product wraps.
-    fn cells(&self) -> u64 {
+    pub fn cells(&self) -> u64 {
         self.rows() * self.row_cells()
     }
 
     /// Scale words in all.
-    fn scales(&self) -> u64 {
+    pub fn scales(&self) -> u64 {
         self.rows() * self.row_scales()
     }
 

@@ -3,8 +3,8 @@ use kvasm::dice::{Dice, SEED};
 use kvasm::fuzz::Trial;
 use kvasm::runs::Program;
 use kvasm::tally::Tally;
-use kvasm::{draws, model};
-use std::path::PathBuf;
+use kvasm::{draws, folder, model};
+use std::path::{Path, PathBuf};
 use std::process::Command;
 use std::{env, fs, process};
 
@@ -30,6 +30,31 @@ fn random_files_ask_for_every_line_often() {
     }
     assert!(tally.bad >= 600 && tally.reports >= 3000 && tally.ok >= 9000);
     assert_eq!(tally.refusals.len(), 6, "{tally}");
+}
+
+#[test]
+fn random_files_reach_both_sides_of_both_limits() {
+    let mut tally = Tally::default();
+    for number in 0..2000 {
+        let file = draws::file(&mut Dice::of(SEED, number));
+        tally.count(&file, &model::play(&file));
+    }
+    let edges = &tally.edges;
+    assert!(edges.all_cells >= 20 && edges.more_cells >= 20, "{edges:?}");
+    assert!(
+        edges.all_scales >= 10 && edges.more_scales >= 10,
+        "{edges:?}"
+    );
+}
+
+#[test]
+fn folder_tells_of_each_file_that_differs() {
+    let folder = Path::new(env!("CARGO_MANIFEST_DIR")).join("../crates/callfiles");
+    let silent = Program::new("true".into(), &[]);
+    let (files, differing) = folder::hold(&silent, &folder).expect("it starts");
+    // All but the empty file ask for a line.
+    assert_eq!((files, differing.len()), (150, 149));
+    assert!(differing[0].contains("line 1: wanted "), "{}", differing[0]);
 }
 
 #[test]

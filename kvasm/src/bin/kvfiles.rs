@@ -8,14 +8,15 @@ use std::path::Path;
 use std::process::ExitCode;
 use std::{env, fs, io, process};
 
-const USAGE: &str =
-    "usage: kvfiles folder DIR | kvfiles fuzz PROGRAM COUNT [SEED] [-- WRAPPER WORDS..]";
+const USAGE: &str = "usage: kvfiles folder DIR | kvfiles hold PROGRAM DIR [-- WRAPPER WORDS..] \
+    | kvfiles fuzz PROGRAM COUNT [SEED] [-- WRAPPER WORDS..]";
 
 fn main() -> ExitCode {
     let arguments: Vec<OsString> = env::args_os().skip(1).collect();
     let command = arguments.first().and_then(|word| word.to_str());
     match (command, &arguments[..]) {
         (Some("folder"), [_, folder]) => write_folder(Path::new(folder)),
+        (Some("hold"), [_, words @ ..]) => hold(words),
         (Some("fuzz"), [_, words @ ..]) => trial(words).map_or_else(usage, |trial| fuzz(&trial)),
         _ => usage(),
     }
@@ -33,10 +34,35 @@ fn write_folder(folder: &Path) -> ExitCode {
     }
 }
 
+/// Words, and those of a wrapper behind a `--`.
+fn halves(words: &[OsString]) -> (&[OsString], &[OsString]) {
+    let mut halves = words.splitn(2, |word| word == "--");
+    let mut half = || halves.next().unwrap_or(&[]);
+    (half(), half())
+}
+
+/// Holds a program to the model on each file of a folder, and tells of those that differ.
+fn hold(words: &[OsString]) -> ExitCode {
+    let ([program, folder], wrapper) = halves(words) else {
+        return usage();
+    };
+    match folder::hold(&Program::new(program.clone(), wrapper), Path::new(folder)) {
+        Ok((files, differing)) => {
+            differing.iter().for_each(|line| println!("{line}"));
+            println!(
+                "{files} files of {}; {} differ",
+                Path::new(folder).display(),
+                differing.len()
+            );
+            ExitCode::from(u8::from(files == 0 || !differing.is_empty()))
+        }
+        Err(error) => failed("hold", &error),
+    }
+}
+
 /// The trial that the words ask for.
 fn trial(words: &[OsString]) -> Option<Trial> {
-    let mut halves = words.splitn(2, |word| word == "--");
-    let (asked, wrapper) = (halves.next()?, halves.next().unwrap_or(&[]));
+    let (asked, wrapper) = halves(words);
     let number = |word: &OsString| word.to_str()?.parse().ok();
     let (program, count, seed) = match asked {
         [program, count] => (program, number(count)?, SEED),

@@ -1,11 +1,12 @@
 //! Random shapes: those that an open accepts, and those that it refuses.
 use crate::dice::Dice;
-use crate::shape::{Shape, F32, INT4, INT8, LIMITS};
+use crate::shape::{Shape, BF16, F32, INT4, INT8, LIMITS};
 
 /// A shape that an open accepts.
 pub fn at_hand(dice: &mut Dice) -> Shape {
     loop {
         let shape = match dice.below(10) {
+            0 if dice.one_of(2) => edge(0, dice),
             0 => brim(dice),
             1 => drawn([2, 2, 256, 4], dice),
             2 => drawn([2, 1, 3, 4096], dice),
@@ -25,7 +26,8 @@ pub fn refused(dice: &mut Dice) -> Shape {
         let shape = match dice.below(8) {
             0 | 1 => spoiled(at_hand(dice), dice),
             2 => spoiled(drawn(LIMITS, dice), dice),
-            3 | 4 => past_brim(dice),
+            3 => past_brim(dice),
+            4 => edge(1, dice),
             5 => drawn(LIMITS, dice),
             6 => about_most_cells(dice),
             _ => torn_groups(dice),
@@ -71,6 +73,42 @@ fn past_brim(dice: &mut Dice) -> Shape {
     Shape {
         capacity: shape.capacity + 1,
         ..shape
+    }
+}
+
+/// A shape that needs all cell bytes or scale words at hand, or `more` than that by as little as its format allows.
+fn edge(more: u32, dice: &mut Dice) -> Shape {
+    // A side has half of it: so many numbers of 4, 2 and 1 bytes, or so many scale words.
+    match dice.below(5) {
+        0 => Shape::new(F32, sizes_of(4096 + more, LIMITS, dice)),
+        1 => Shape::new(BF16, sizes_of(8192 + more, LIMITS, dice)),
+        2 => Shape::new(INT8, sizes_of(16_384 + more, LIMITS, dice)),
+        3 => {
+            // With so few numbers to a head the cell bytes are enough.
+            let [layers, heads, _, capacity] = sizes_of(1024 + more, [128, 64, 1, 4096], dice);
+            Shape::new(INT8, [layers, heads, dice.up_to(15), capacity])
+        }
+        _ => {
+            let [layers, heads, groups, capacity] = sizes_of(1024 + more, [128, 64, 8, 4096], dice);
+            Shape::new(INT4, [layers, heads, 32 * groups, capacity])
+        }
+    }
+}
+
+/// Random sizes up to these with this product.
+fn sizes_of(product: u32, most: [u16; 4], dice: &mut Dice) -> [u16; 4] {
+    loop {
+        let (mut sizes, mut rest) = (most, product);
+        for size in &mut sizes[..3] {
+            let divides = |size: &u16| rest % u32::from(*size) == 0;
+            let divisors: Vec<u16> = (1..=*size).filter(divides).collect();
+            *size = dice.pick(&divisors);
+            rest /= u32::from(*size);
+        }
+        if rest <= most[3].into() {
+            sizes[3] = rest as u16;
+            return sizes;
+        }
     }
 }
 
