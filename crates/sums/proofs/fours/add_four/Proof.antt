@@ -39,12 +39,12 @@ add-plain-requires c κs =
     let plain = s .pre .1 (c .before .before .before .before .before .before .before .before .before .if1 .taken) in
     let rows = plain-rows (s .args .cells .now) (s .args .scales .now) (s .args .out .now) (h .1) in
     let behind = next-rows (s .args .cells .now) (s .args .scales .now) (s .args .out .now) (h .1) (s .args .next .now) (h .2) in (
-      rows 0 _ (omega arith) plain (c .before .before .before .before .cells-of .ensures),
+      rows _ _ (omega arith) plain (c .before .before .before .before .cells-of .ensures),
       (
-        rows 2 _ (omega arith) plain (c .before .before .before .cells-of2 .ensures),
+        rows _ _ (omega arith) plain (c .before .before .before .cells-of2 .ensures),
         (
-          behind 0 _ (omega arith) (c .before .before .cells-of3 .ensures),
-          behind 2 _ (omega arith) (c .before .cells-of4 .ensures),
+          behind _ _ (omega arith) (c .before .before .cells-of3 .ensures),
+          behind _ _ (omega arith) (c .before .cells-of4 .ensures),
           four-size _ _ _ (h .1) .1,
         ),
       ),
