@@ -1,13 +1,13 @@
 -- Terms added to a sum and to a list of sums: place by place, a stretch at a time, position after position; and scores and sums of positions that agree.
 -- Each holds by the laws of tables and turns, since a place's sum takes its own terms alone, in their order.
-use mathlib.Core.Path.{_≡_, refl, ap, _∙_}
+use mathlib.Core.Path.{_≡_, refl, sym, ap, _∙_}
 use mathlib.Core.List.{List, _++_, map, append-assoc}
 use Prim.Native.Nat.{ℕ, zero, suc, _+_, _-_, _≤_, _<_}
 use native.Mathlib.Numerals.{add-one}
 use native.Mathlib.Omega.{arith}
 use lib.ListN.{length, getD, set, take, drop, replicate, length-map, List·getD-map}
 use lib.Seq.{take-at, drop-at, drop-drop, getD-take, getD-drop}
-use lib.Ieee.{Float, nan, binary32, add}
+use lib.Ieee.{Float, nan, binary32, add, ofBits, toBits}
 use Rattle.lists.specs.Chunks.{tab, turns, part}
 use Rattle.lists.proofs.Tab.{tab-length, tab-getD, tab-of, tab-same, tab-replicate, tab-add, tab-set, tab-next, tab-done}
 use Rattle.lists.proofs.Turns.{turns-next, turns-same}
@@ -103,3 +103,8 @@ scores-same m dot dot′ x e = tab-same m _ _ (λ p u. rw (e p u))
 pub sums-same : (d m : ℕ) (term term′ : ℕ → ℕ → Float) → ((p i : ℕ) → p < m → term p i ≡ term′ p i) → sumsOf d m term ≡ sumsOf d m term′
 unfolding sumsOf summed
 sums-same d m term term′ e = tab-same d _ _ (λ i w. ap word (turns-same m _ _ _ (λ p u. rw (e p i u))))
+
+-- without weights every sum is +0.0
+pub no-weights : (d : ℕ) (term : ℕ → ℕ → Float) → sumsOf d 0 term ≡ replicate d 0
+unfolding sumsOf summed turns toBits ofBits
+no-weights d term = sym (tab-replicate d 0)

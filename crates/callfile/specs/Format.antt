@@ -1,4 +1,4 @@
--- What stands at a place of a call file: the paper's section Call file.
+-- What stands at a place of a call file: the paper's Records, under Call file.
 use Prim.Native.Nat.{ℕ, _+_, _*_}
 use mathlib.Core.Bool.{Bool, cond, _&&_}
 use mathlib.Core.List.{List}

@@ -2,7 +2,7 @@
 use Prim.Native.Nat.{ℕ, zero, suc, _^_, _%_, _≤_, _<_}
 use native.Mathlib.Omega.{arith}
 use mathlib.Core.Path.{_≡_, refl, ap, _∙_}
-use mathlib.Core.Logic.{_⊎_, inl}
+use mathlib.Core.Logic.{inl}
 use mathlib.Core.Bool.{Bool, true, false, cond}
 use mathlib.Core.List.{List, [], _∷_}
 use borrow.Author.Tests.{lt-leb, le-leb}
@@ -14,7 +14,7 @@ use lib.Ieee.Fits.{div-fits}
 use mir.Syntax.{w8}
 use mir.Val.{ofZ}
 use Rattle.numbers.specs.Word.{float, word}
-use Rattle.numbers.specs.Kind.{ZeroWord, InfWord, NanWord, AboveZero, BelowZero, All, Any}
+use Rattle.numbers.specs.Kind.{InfWord, BlankWord, AboveZero, BelowZero, All, Any}
 use Rattle.numbers.specs.Scale.{largest, scaleOf}
 use Rattle.numbers.specs.Code.{held, above, code8, code4, read8, read4, less8}
 use Rattle.numbers.proofs.CodeLaws.{code8-held, code4-held}
@@ -33,25 +33,21 @@ both : (w : ℕ) (scale : Float) (z : ℕ → ℕ → ℤ) → ((low high : ℕ)
     → Codes w scale (ofZ w8 (z 127 127)) (above 8 (z 8 7))
 both w scale z h = (code8-held w scale (h 127 127 (omega arith) (omega arith)), code4-held w scale (h 8 7 (omega arith) (omega arith)))
 
--- P3: a zero of either sign, or a NaN of any payload and sign
-abbrev pub Blank : ℕ → Type 0
-Blank w = ZeroWord w ⊎ NanWord w
-
--- a run of such words, of any length, has the scale 1.0 under every divisor
-pub p3 : (divisor : ℕ) (run : List ℕ) → All Blank run → scaleOf divisor run ≡ float 0x3f80_0000
+-- P3: a run of zeros of either sign and NaNs of any payload and sign, of any length, has the scale 1.0 under every divisor
+pub p3 : (divisor : ℕ) (run : List ℕ) → All BlankWord run → scaleOf divisor run ≡ float 0x3f80_0000
 p3 = blank-scale
 
 -- each of them has the code of 0, under every scale
-pub p3-codes : (w : ℕ) (scale : Float) → Blank w → Codes w scale 0 8
+pub p3-codes : (w : ℕ) (scale : Float) → BlankWord w → Codes w scale 0 8
 p3-codes w scale b = both w scale (λ _ _. pos 0) (λ low high _ _. blank-held low high (float w) scale (blank-word w b))
 
-blank-at : (run : List ℕ) (i : ℕ) → All Blank run → Blank (getD run i 0)
+blank-at : (run : List ℕ) (i : ℕ) → All BlankWord run → BlankWord (getD run i 0)
 blank-at [] i b = inl refl
 blank-at (w ∷ run) zero b = b .0
 blank-at (w ∷ run) (suc i) b = blank-at run i (b .1)
 
 -- a group of them is 16 bytes 88, which read as zeros
-pub p3-group : (numbers : List ℕ) → All Blank numbers
+pub p3-group : (numbers : List ℕ) → All BlankWord numbers
     → let scale = scaleOf 7 numbers in (packed numbers scale ≡ replicate 16 0x88) × (unpacked (packed numbers scale) scale ≡ replicate 32 0)
 unfolding read4 less8 mul ofInt ofBits toBits
 p3-group numbers b =

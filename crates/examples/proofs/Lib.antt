@@ -1,2 +1,3 @@
 pub mod AllExamples
 pub mod General
+pub mod WholeCase

@@ -67,10 +67,13 @@ pub data Example : Type 0 where
   P : ℕ → Asked → List ℕ → Example
   -- a shape opened in any buffers of exactly its need, and the reply
   Opened : ℕ → Shape → ℕ → Example
+  -- a shape outside the limits: 1 in any buffers
+  Outside : ℕ → Shape → Example
 
 abbrev pub Holds : Example → Type 0
 Holds (P n asked said) = answer asked ≡ said
 Holds (Opened n s reply) = (b : Buffers) → length (b .cells) ≡ cellTotal s → length (b .scales) ≡ scaleTotal s → openOf s b .reply ≡ reply
+Holds (Outside n s) = (b : Buffers) → openOf s b .reply ≡ 1
 
 abbrev pub AllHold : List Example → Type 0
 AllHold [] = Unit {0}
@@ -122,5 +125,5 @@ examples =
     ∷ P 9 (weighed (shape 3 1 1 32 1) (all 32 0) group2 (0x3e80_0000 ∷ [])) (0 ∷ 0x3fe0_0000 ∷ all 15 0 ++ (0xbfe0_0000 ∷ all 15 0))
     -- F32, H 64, D 256, C 4,096
     ∷ Opened 10 (shape 0 2 64 256 4096) 0
-    ∷ Opened 10 (shape 0 3 64 256 4096) 1
+    ∷ Outside 10 (shape 0 3 64 256 4096)
     ∷ []

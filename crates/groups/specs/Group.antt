@@ -1,4 +1,4 @@
--- A group: 32 numbers in 16 bytes. The third point of the paper's section Codes, with reply 7 of its section Replies.
+-- A group: 32 numbers in 16 bytes. The paper's Group, under Codes, and reply 7.
 use Prim.Native.Nat.{ℕ, _+_, _*_, _/_, _%_, _^_}
 use mathlib.Core.Bool.{Bool, cond, _&&_}
 use mathlib.Core.List.{List, _++_}

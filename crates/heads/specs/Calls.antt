@@ -1,4 +1,4 @@
--- Scores and weighted sums of a stored head: the last point of the paper's section Calls, with replies 1 to 8.
+-- Scores and weighted sums of a stored head: the paper's Scores and sums, under Calls, with replies 1 to 8.
 use Prim.Native.Nat.{ℕ}
 use mathlib.Core.Bool.{not}
 use mathlib.Core.List.{List, [], _∷_, _++_}

@@ -1,4 +1,4 @@
--- Where rows lie in a buffer that has b elements for each position and head: the places of the paper's section Shape and room.
+-- Where rows lie in a buffer that has b elements for each position and head: the paper's Buffers, under Shape and room.
 -- Said once, for cells with b = B and for scale words with b = S.
 use Prim.Native.Nat.{ℕ, _+_, _*_}
 use mathlib.Core.List.{List}

@@ -1,4 +1,4 @@
--- Each call in the room at hand, from which a shape is lent exactly its need: the paper's section Call file.
+-- Each call in the room at hand, from which a shape is lent exactly its need: the paper's Room at hand, under Call file.
 use Prim.Native.Nat.{ℕ}
 use mathlib.Core.Bool.{cond}
 use mathlib.Core.List.{List, _++_}

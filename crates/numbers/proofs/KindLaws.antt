@@ -1,6 +1,6 @@
 -- The float of a word of each kind, and its code where the scale does not matter, is infinite or is 0: once over the clamp range.
 use mathlib.Core.Path.{_≡_, refl, sym, _∙_}
-use mathlib.Core.Logic.{_⊎_, inl, inr}
+use mathlib.Core.Logic.{inl, inr}
 use Prim.Native.Nat.{ℕ, zero, suc, _*_, _%_, _^_, _≤_, _<_, zero-le}
 use native.Mathlib.Nat.{zero-mul, zero-div, mul-pos, lt-irrefl}
 use native.Mathlib.Omega.{arith}
@@ -15,7 +15,7 @@ use lib.Ieee.Fits.{up-pos, down-pos}
 use lib.Pow.{pow-pos}
 use Rattle.numbers.specs.Word.{float, word}
 use Rattle.numbers.specs.Code.{held, read8, less8, read4}
-use Rattle.numbers.specs.Kind.{ZeroWord, InfWord, NanWord, AboveZero, BelowZero}
+use Rattle.numbers.specs.Kind.{ZeroWord, InfWord, BlankWord, AboveZero, BelowZero}
 use Rattle.numbers.proofs.ValueLaws.{held-value}
 use Rattle.numbers.proofs.Patterns.{signed, bare, with-sign, without-sign, above-infinity, up-to-infinity}
 
@@ -43,7 +43,7 @@ inf-word w h =
     let d : w % 8388608 ≡ 0 = omega arith in
     with-sign w ∙ rw (h, d)
 
-pub blank-word : (w : ℕ) → ZeroWord w ⊎ NanWord w → Blank (float w)
+pub blank-word : (w : ℕ) → BlankWord w → Blank (float w)
 blank-word w (inl h) = rw (zero-word w h)
 blank-word w (inr h) = rw (above-infinity w h) tt
 

@@ -1,6 +1,6 @@
 -- The scale of a run of zeros and NaNs, of one with an infinity, and of one whose largest magnitude is a few smallest subnormals: once over the divisor.
 use mathlib.Core.Path.{_≡_, refl, sym, ap, _∙_}
-use mathlib.Core.Logic.{_⊎_, inl, inr}
+use mathlib.Core.Logic.{inl, inr}
 use mathlib.Core.Bool.{Bool, true, false}
 use mathlib.Core.List.{List, [], _∷_}
 use Prim.Native.Nat.{ℕ, zero, suc, _-_, _*_, _/_, _^_, _≤_, _<_}
@@ -17,7 +17,7 @@ use lib.Ieee.Fits.{core, round-is, up-pos, down-pos}
 use lib.Ieee.Nearest.{closest, closest-same, closest-mono, div-same}
 use Rattle.numbers.specs.Word.{float, whole}
 use Rattle.numbers.specs.Scale.{magnitude, larger, largestFrom, largest, scaleOf}
-use Rattle.numbers.specs.Kind.{ZeroWord, InfWord, NanWord, All, Any}
+use Rattle.numbers.specs.Kind.{InfWord, BlankWord, All, Any}
 use Rattle.numbers.proofs.KindLaws.{Blank, blank-word, inf-word}
 use Rattle.numbers.proofs.ValueLaws.{few-value}
 use Rattle.numbers.proofs.Rounding.{Near, closest-near}
@@ -30,12 +30,12 @@ larger-blank nan b = refl
 larger-blank (inf s) b = absurd b
 larger-blank (fin s m e) b = rw (b, zero-mul (down e), zero-mul (up e))
 
-blank-largest : (run : List ℕ) → All (λ w. ZeroWord w ⊎ NanWord w) run → largestFrom (fin false 0 (pos 0)) run ≡ fin false 0 (pos 0)
+blank-largest : (run : List ℕ) → All BlankWord run → largestFrom (fin false 0 (pos 0)) run ≡ fin false 0 (pos 0)
 unfolding largestFrom
 blank-largest [] b = refl
 blank-largest (w ∷ run) b = rw (larger-blank (float w) (blank-word w (b .0))) (blank-largest run (b .1))
 
-pub blank-scale : (d : ℕ) (run : List ℕ) → All (λ w. ZeroWord w ⊎ NanWord w) run → scaleOf d run ≡ float 1065353216
+pub blank-scale : (d : ℕ) (run : List ℕ) → All BlankWord run → scaleOf d run ≡ float 1065353216
 unfolding largest eq ofBits ofInt
 blank-scale d run b = sym (scale-one d run (fin false 0 (pos 0)) (sym (blank-largest run b)) refl)
 

@@ -1,4 +1,4 @@
--- The code of one number under a scale, and what a code reads as: the second and fourth points of the paper's section Codes.
+-- The code of one number under a scale, and what a code reads as: the paper's Code of a number and Reading, under Codes.
 use Prim.Native.Nat.{ℕ, suc, _+_, _-_, _*_, _/_, min}
 use mathlib.Core.Bool.{cond}
 use lib.IntN.{ℤ, pos, negsuc, negℤ}

@@ -4,7 +4,7 @@ use mathlib.Core.Path.{_≡_}
 use mathlib.Core.Logic.{_⊎_}
 use mathlib.Core.List.{List, [], _∷_}
 
--- a zero, an infinity: of either sign; a NaN: of any sign and payload
+-- a zero, an infinity: of either sign; a NaN: of any sign and payload; a zero or a NaN
 abbrev pub ZeroWord : ℕ → Type 0
 ZeroWord w = w % 0x8000_0000 ≡ 0
 
@@ -13,6 +13,9 @@ InfWord w = w % 0x8000_0000 ≡ 0x7f80_0000
 
 abbrev pub NanWord : ℕ → Type 0
 NanWord w = 0x7f80_0000 < w % 0x8000_0000
+
+abbrev pub BlankWord : ℕ → Type 0
+BlankWord w = ZeroWord w ⊎ NanWord w
 
 -- a number above 0, and one below 0: finite or infinite
 abbrev pub AboveZero : ℕ → Type 0

@@ -1,4 +1,4 @@
--- The scale of a run of words: the first point of the paper's section Codes.
+-- The scale of a run of words: the paper's Scale of a run, under Codes.
 use Prim.Native.Nat.{ℕ}
 use mathlib.Core.Bool.{false, cond}
 use mathlib.Core.List.{List, [], _∷_}

@@ -1,4 +1,4 @@
--- Words of 32 bits and the floats that they stand for, and BF16: IEEE 754 binary32, and the last point of the paper's section Codes.
+-- Words of 32 bits and the floats that they stand for, and BF16: IEEE 754 binary32, and the paper's BF16, under Codes.
 use Prim.Native.Nat.{ℕ, _+_, _*_, _/_, _%_, _^_}
 use lib.IntN.{ℤ}
 use lib.Ieee.{Float, binary32, ofBits, toBits, ofInt}

@@ -7,29 +7,28 @@ use native.Mathlib.Omega.{arith}
 use lib.ListN.{length}
 use Rattle.rows.specs.Calls.{Buffers}
 use Rattle.texts.specs.Place.{Placed}
-use Rattle.texts.specs.Text.{Laid, laid}
+use Rattle.texts.specs.Text.{Laid}
 use Rattle.texts.proofs.LaidLaws.{placed-laid}
 use Rattle.texts.proofs.PlaceLaws.{placed-none, placed-then, placed-length}
 use Rattle.replay.specs.Step.{stepOf}
-use Rattle.replay.specs.Replay.{start, replayOf}
-use Rattle.replay.specs.Transcript.{textOf, linesFrom, Play}
+use Rattle.replay.specs.Transcript.{textOf, start, Whole, headed, walkFrom, Play, laidOut}
 use Rattle.replay.specs.Turn.{turned}
-use Rattle.replay.proofs.WalkLaws.{Reached, at-start, stopped, again}
-use Rattle.replay.proofs.LineLaws.{line-most, step-some, lines-on, lines-last}
+use Rattle.replay.proofs.WalkLaws.{step-inside, walk-on, walk-last}
+use Rattle.replay.proofs.LineLaws.{line-most, step-some}
 
 module _ (file : List ℕ) (room : Buffers) (out₀ : List ℕ) where
   -- p is reached after some turns
   pub record Playing (p : Play) : Type 0 where
-    pub reached : Reached file room (p .last)
+    pub inside : p .last .place ≤ length file
     pub soFar : List ℕ
     pub placed : Placed 0 soFar out₀ (p .text .count) (p .text .out)
-    pub rest : soFar ++ linesFrom (length file - p .last .place) file (p .last) ≡ linesFrom (length file) file (start room)
+    pub rest : headed soFar (walkFrom (length file - p .last .place) file (p .last)) ≡ walkFrom (length file) file (start room)
     pub short : 3 * p .text .count ≤ 700 * p .last .place
 
   pub playing-start : Playing (record { last = start room; text = record { count = 0; out = out₀ } })
   playing-start =
       let n : length file - 0 ≡ length file = omega arith in
-      record { reached = at-start file room; soFar = []; placed = placed-none 0 out₀; rest = rw n; short = omega arith }
+      record { inside = omega arith; soFar = []; placed = placed-none 0 out₀; rest = rw n; short = omega arith }
 
   module _ (p : Play) (i : Playing p) where
     -- the text with one line more
@@ -38,35 +37,32 @@ module _ (file : List ℕ) (room : Buffers) (out₀ : List ℕ) where
 
     next-playing : p .last .place < stepOf file (p .last) .after .place → Playing (turned file p)
     next-playing h =
-        let r = again file (i .reached) h in
+        let r = step-inside file (p .last) (i .inside) in
         let a = i .short in
         let b = line-most file (p .last) in
         let d = step-some file (p .last) h in
         record {
-          reached = r;
+          inside = r;
           soFar = i .soFar ++ textOf (stepOf file (p .last) .line);
           placed = next-placed;
-          rest = rw append-assoc (rw (lines-on file (p .last) h (r .inside)) at (i .rest));
+          rest = rw append-assoc (rw (walk-on file (p .last) h r) at (i .rest));
           short = omega arith;
         }
 
-    done-playing : stepOf file (p .last) .after .place ≤ p .last .place
-        → turned file p ≡ record { last = replayOf file room; text = laid (linesFrom (length file) file (start room)) out₀ }
+    done-playing : stepOf file (p .last) .after .place ≤ p .last .place → turned file p ≡ laidOut (walkFrom (length file) file (start room)) out₀
     done-playing h =
-        let t = i .soFar ++ textOf (stepOf file (p .last) .line) in
-        let e : t ≡ linesFrom (length file) file (start room) = rw (lines-last file (p .last) h) at (i .rest) in
         ap (λ (l : Laid). record { last = stepOf file (p .last) .after; text = l }) (placed-laid next-placed)
-        ∙ rw (stopped file (i .reached) h, e)
+        ∙ ap (λ (x : Whole). laidOut x out₀) (rw (walk-last file (p .last) h) at (i .rest))
 
   pub playing-length : (p : Play) → Playing p → length file ≤ 16384 → 4194304 ≤ length out₀ → length (p .text .out) ≡ length out₀
-  playing-length p i f o = placed-length (i .placed) (omega (arith, i .short, i .reached .inside))
+  playing-length p i f o = placed-length (i .placed) (omega (arith, i .short, i .inside))
 
   pub playing-room : (p : Play) → Playing p → length file ≤ 16384 → 4194304 ≤ length out₀ → p .text .count + 2048 ≤ length (p .text .out)
-  playing-room p i f o = omega (arith, i .short, i .reached .inside, playing-length p i f o)
+  playing-room p i f o = omega (arith, i .short, i .inside, playing-length p i f o)
 
   pub playing-again : (p q : Play) → Playing p → q ≡ turned file p → length file ≤ 16384 → 4194304 ≤ length out₀ → p .last .place < q .last .place → Playing q
   playing-again p q i e f o h = rw e (next-playing p i (rw e at h))
 
   pub playing-stopped : (p q : Play) → Playing p → q ≡ turned file p → q .last .place ≤ p .last .place
-      → q ≡ record { last = replayOf file room; text = laid (linesFrom (length file) file (start room)) out₀ }
+      → q ≡ laidOut (walkFrom (length file) file (start room)) out₀
   playing-stopped p q i e h = e ∙ done-playing p i (rw e at h)

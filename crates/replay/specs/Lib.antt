@@ -1,4 +1,3 @@
 pub mod Step
-pub mod Replay
 pub mod Transcript
 pub mod Turn

@@ -29,7 +29,7 @@ ghost use Rattle.replay.specs.Step.{printed, reportOf, effectOf, effect,
 ghost use Rattle.replay.specs.Transcript.{textOf, atHand, transcript, playOf, playIn, played};
 
 // A line of output.
-pub enum Line {
+pub(crate) enum Line {
     // `ok`, or `no` and the reply's number.
     Answer { reply: Reply },
     // The record's sequence number, these bytes, and the record's lengths.
@@ -41,7 +41,7 @@ pub enum Line {
 }
 
 // A line, and the record afterwards.
-pub struct Told {
+pub(crate) struct Told {
     pub line: Line,
     pub after: Record,
 }
@@ -56,7 +56,7 @@ pub struct Played {
 // Plays a call file in the room that the paper gives the program, and lays all that it prints into `out`.
 pub fn play(file: &[u8], out: &mut [u8; 4_194_304]) -> Played
     ensures text { λ r. ⌜ record { count = r .count; out = now (out .exit) } ≡ laid (transcript (now (file .entry))) (now (out .entry)) ⌝ }
-    ensures last { λ r. ⌜ (r .place ≡ playOf (now (file .entry)) atHand .place) × (r .after ≡ playOf (now (file .entry)) atHand .held .rec) ⌝ }
+    ensures last { λ r. ⌜ (r .place ≡ playOf (now (file .entry)) atHand .last .place) × (r .after ≡ playOf (now (file .entry)) atHand .last .held .rec) ⌝ }
 {
     let mut cells = no_cells();
     let mut scales = no_scales();
@@ -204,7 +204,7 @@ pub fn report_line(record: Record, out: &mut [u8], at: usize) -> usize
 }
 
 // A report of a store, or why there is none.
-pub fn report(record: Record) -> Line
+fn report(record: Record) -> Line
     ensures { λ r. ⌜ printed r «record» ≡ reportOf «record» ⌝ }
 {
     let counted = memory_bytes(record);

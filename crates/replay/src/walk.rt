@@ -15,9 +15,7 @@ ghost use Rattle.rows.specs.Calls.{buffers};
 ghost use Rattle.store.specs.Record.{newRecord};
 ghost use Rattle.store.specs.Calls.{noShape};
 ghost use Rattle.callfile.specs.Format.{entryAt};
-ghost use Rattle.texts.specs.Text.{laid};
-ghost use Rattle.replay.specs.Replay.{start, replayOf};
-ghost use Rattle.replay.specs.Transcript.{linesFrom, played};
+ghost use Rattle.replay.specs.Transcript.{start, walkFrom, laidOut, played};
 ghost use Rattle.replay.specs.Turn.{turned};
 
 pub(crate) fn walk_file(file: &[u8], cells: &mut [u8], scales: &mut [u32], out: &mut [u8]) -> Played
@@ -25,10 +23,7 @@ pub(crate) fn walk_file(file: &[u8], cells: &mut [u8], scales: &mut [u32], out: 
     ensures { λ r.
         ⌜
         played r (now (cells .exit)) (now (scales .exit)) (now (out .exit))
-        ≡ record {
-          last = replayOf (now (file .entry)) (buffers (now (cells .entry)) (now (scales .entry)));
-          text = laid (linesFrom (length (now (file .entry))) (now (file .entry)) (start (buffers (now (cells .entry)) (now (scales .entry))))) (now (out .entry));
-        }
+        ≡ laidOut (walkFrom (length (now (file .entry))) (now (file .entry)) (start (buffers (now (cells .entry)) (now (scales .entry))))) (now (out .entry))
         ⌝ }
 {
     let mut reader = new(file);

@@ -1,4 +1,4 @@
--- The lowest reply that applies, and what a call leaves: the sentences under the table of the paper's section Replies.
+-- The lowest reply that applies, and what a call leaves: the paper's Lowest first and Refused, under Replies.
 use Prim.Native.Nat.{ℕ}
 use mathlib.Core.Path.{_≡_}
 use mathlib.Core.Bool.{Bool, true, false, cond}

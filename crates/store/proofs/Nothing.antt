@@ -1,26 +1,22 @@
 -- A call that has nothing to change leaves record and both buffers as they were, whatever it answers: the paper's sentences on a t at or past the length and on n = 0.
 -- What such a call would leave where it is done is what it leaves where it is refused.
-use mathlib.Core.Path.{_≡_, refl, ap}
-use mathlib.Core.Bool.{Bool, true, false, cond}
+use mathlib.Core.Path.{_≡_, ap}
 use mathlib.Core.List.{List, []}
 use Prim.Native.Nat.{ℕ, _≤_}
 use native.Mathlib.Nat.{add-zero, min-eq-left}
 use lib.Dec.{eqb}
 use lib.Seq.{set-getD}
 use Rattle.replies.specs.Outcome.{Refusal, lowest, outcome}
+use Rattle.replies.proofs.Flags.{alike}
 use Rattle.rows.specs.Calls.{Buffers}
 use Rattle.cells.proofs.Nothing.{no-positions, removed-none, appended-none}
 use Rattle.store.specs.declared.Record.{Record}
 use Rattle.store.specs.Record.{lengthOf, withLength}
 use Rattle.store.specs.Calls.{store, appendOf, truncateOf}
 
-either : {A : Type 0} (b : Bool) (x : A) → cond b x x ≡ x
-either true x = refl
-either false x = refl
-
 same-left : {A : Type 0} (refusals : List Refusal) (new old : A) → new ≡ old → outcome refusals new old .left ≡ old
 unfolding outcome
-same-left refusals new old e = rw e (either (eqb (lowest refusals) 0) old)
+same-left refusals new old e = rw e (alike (eqb (lowest refusals) 0) old)
 
 -- the length that a layer has, set again
 same-length : (r : Record) (l : ℕ) → withLength r l (lengthOf r l) ≡ r

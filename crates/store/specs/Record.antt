@@ -1,4 +1,4 @@
--- The record, its lengths and the byte count: the paper's section Shape and room, reply 3, and the byte count of its section Calls.
+-- The record, its lengths and the byte count: the paper's Record, under Shape and room, reply 3, and Lengths and bytes, under Calls.
 use Prim.Native.Nat.{ℕ, _+_, _*_, _≤_, _<_}
 use mathlib.Core.Path.{_≡_}
 use mathlib.Core.Bool.{Bool, true, cond, not}

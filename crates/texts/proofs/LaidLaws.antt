@@ -55,3 +55,8 @@ laid-in t b {n} {a} e =
     let c : n ≡ length t = ap (λ (l : Laid). l .count) e in
     let o : length a ≡ length t + length (drop (length t) b) = rw (← length-append) (ap (λ (l : Laid). length (l .out)) e) in
     omega arith
+
+-- of what a line's statement admits there is one count and one buffer
+pub laid-determined : (l : Laid) {n n′ : ℕ} {a a′ : List ℕ} → _≡_ {A = Laid} (record { count = n; out = a }) l
+    → _≡_ {A = Laid} (record { count = n′; out = a′ }) l → (n ≡ n′) × (a ≡ a′)
+laid-determined l e e′ = let q = e ∙ sym e′ in (ap (λ (x : Laid). x .count) q, ap (λ (x : Laid). x .out) q)

@@ -1,4 +1,4 @@
--- The lines that a call file has printed, as bytes in ASCII: the paper's section Call file.
+-- The lines that a call file has printed, as bytes in ASCII: the paper's Lines, under Call file.
 use Prim.Native.Nat.{ℕ, zero, suc, _+_, _/_, _%_}
 use mathlib.Core.Bool.{cond}
 use mathlib.Core.List.{List, [], _∷_, _++_}
@@ -44,7 +44,7 @@ pub record Laid : Type 0 where
 abbrev pub laid : List ℕ → List ℕ → Laid
 laid text out = record { count = length text; out = text ++ drop (length text) out }
 
--- a text at an offset: the offset after it, and the buffer afterwards; nothing where fewer than 2,048 bytes are left, which hold any line
+-- a text at an offset: the offset after it, and the buffer afterwards; where fewer than 2,048 bytes are left, which any line fits in, nothing is laid
 unfoldable pub laidAt : ℕ → List ℕ → List ℕ → Laid
 laidAt at text out =
     cond (leb (at + 2048) (length out)) (record { count = at + length text; out = over at text out }) (record { count = at; out = out })

@@ -1,4 +1,4 @@
--- The surviving rows of a layer, from the accepted calls alone: the third of the paper's demands.
+-- The surviving rows of a layer, from the accepted calls alone: the paper's Undo is real, under Demands.
 use Prim.Native.Nat.{ℕ, _*_}
 use mathlib.Core.Bool.{cond}
 use mathlib.Core.List.{List, [], _∷_, _++_}

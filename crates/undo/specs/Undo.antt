@@ -1,5 +1,5 @@
 -- Undo is real: what a run leaves is what its surviving rows leave in a newly opened store.
--- The third of the paper's demands; `undo-is-real` in proofs/Undo.antt proves it, and proofs/Corollaries.antt what follows from it.
+-- The paper's demand of that name; `undo-is-real` in proofs/Undo.antt proves it, and proofs/Corollaries.antt what follows from it.
 use mathlib.Core.Path.{_≡_}
 use mathlib.Core.List.{List}
 use Prim.Native.Nat.{ℕ}

@@ -7,8 +7,7 @@ use Rattle.rows.specs.Calls.{buffers}
 use Rattle.texts.specs.Text.{Laid, badText}
 use Rattle.texts.proofs.LaidLaws.{laid-first}
 use Rattle.replay.specs.Step.{walk}
-use Rattle.replay.specs.Replay.{start}
-use Rattle.replay.specs.Transcript.{transcriptIn, playOf}
+use Rattle.replay.specs.Transcript.{start, playOf}
 use Rattle.replay.proofs.play_in.Statement.{statement}
 use Rattle.replay.proofs.play_in.Tie as tie
 
@@ -19,7 +18,7 @@ not-open-requires : tie.Need-not-open-requires
 not-open-requires c κs = search needs
 
 returns : tie.Need-returns
-unfolding playOf transcriptIn
+unfolding playOf
 returns c =
     let a = c .before .before .before .before .before .before .before .args in
     rw (lt-leb _ 16384 (c .before .before .before .if1 .taken), c .not-open .ensures)
@@ -36,7 +35,7 @@ same-length-2 : tie.Need-same-length-2
 same-length-2 c = search needs
 
 returns-2 : tie.Need-returns-2
-unfolding playOf transcriptIn
+unfolding playOf
 returns-2 c = rw (le-leb _ 16384 (c .before .before .before .before .before .before .before .before .if1 .left)) (c .before .before .before .before .walk-file .ensures)
 
 pub play-in-spec : {M : Type 1} → statement M

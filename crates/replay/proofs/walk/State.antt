@@ -19,10 +19,8 @@ use denote.Struct.Laws as LL
 use Rattle.rows.specs.Calls.{Buffers, buffers}
 use Rattle.store.specs.Record.{newRecord}
 use Rattle.store.specs.Calls.{noShape}
-use Rattle.texts.specs.Text.{laid}
 use Rattle.replay.specs.declared.Played.{Played}
-use Rattle.replay.specs.Replay.{start as first, replayOf}
-use Rattle.replay.specs.Transcript.{Play, linesFrom, played}
+use Rattle.replay.specs.Transcript.{start as first, walkFrom, Play, laidOut, played}
 use Rattle.replay.specs.Turn.{turned}
 use Rattle.replay.proofs.PlayLaws.{Playing, playing-start, playing-room, playing-again, playing-stopped}
 use Rattle.replay.proofs.Played as P
@@ -73,7 +71,7 @@ module _ (file : List ℕ) (m : Lists) where
 
   -- what the whole file comes to
   abbrev pub done : Play
-  done = record { last = replayOf file room; text = laid (linesFrom (length file) file (first room)) (m .out) }
+  done = laidOut (walkFrom (length file) file (first room)) (m .out)
 
   pub record State : Type 0 where
     pub so-far : Played
@@ -117,7 +115,7 @@ module _ (file : List ℕ) (m : Lists) where
       }
 
       pub nearer : Nearer next st
-      nearer = omega (arith, next .playing .reached .inside, on)
+      nearer = omega (arith, next .playing .inside, on)
 
   abbrev pub start : (p : Played) (u : Val) → Is P.the-row p (u ∷ []) → p ≡ nothing → State
   start p u is e = record {
