@@ -1,4 +1,4 @@
-//! The folder that the program `callfiles` is run on, what it has to print, and `kvcalls` on each of its files.
+//! The folder that the program `test_callfiles` is run on, what it has to print, and `kvcalls` on each of its files.
 use crate::judge;
 use crate::list::{self, Case};
 use crate::model::{self, Played};

@@ -1,11 +1,11 @@
-//! The folder of the program `callfiles` is what `kvfiles folder` writes.
+//! The folder of the program `test_callfiles` is what `kvfiles folder` writes.
 use kvasm::folder;
 use std::collections::{BTreeMap, BTreeSet};
 use std::fs;
 use std::path::{Path, PathBuf};
 
 fn folder() -> PathBuf {
-    Path::new(env!("CARGO_MANIFEST_DIR")).join("../crates/callfiles")
+    Path::new(env!("CARGO_MANIFEST_DIR")).join("../crates/test_callfiles")
 }
 
 fn files(data: &Path) -> BTreeMap<String, Vec<u8>> {

@@ -49,7 +49,7 @@ fn random_files_reach_both_sides_of_both_limits() {
 
 #[test]
 fn folder_tells_of_each_file_that_differs() {
-    let folder = Path::new(env!("CARGO_MANIFEST_DIR")).join("../crates/callfiles");
+    let folder = Path::new(env!("CARGO_MANIFEST_DIR")).join("../crates/test_callfiles");
     let silent = Program::new("true".into(), &[]);
     let (files, differing) = folder::hold(&silent, &folder).expect("it starts");
     // All but the empty file ask for a line.

@@ -11,7 +11,7 @@ use Rattle.lists.specs.Chunks.{part}
 use Rattle.lists.proofs.At.{at-lent}
 use Rattle.shapes.specs.declared.Shape.{Shape}
 use Rattle.shapes.specs.Shape.{bytesOf, wordsOf, total, limits}
-use Rattle.rows.specs.Calls.{buffers}
+use Rattle.shapes.specs.Buffers.{buffers}
 use Rattle.layers.specs.Layer.{layerSize, putLayer, written, place}
 use Rattle.layers.specs.Fits.{Fits}
 use Rattle.layers.proofs.SizeLaws.{total-layers, layer-in}

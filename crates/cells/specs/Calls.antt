@@ -9,7 +9,7 @@ use Rattle.replies.specs.Outcome.{Refusal, _when_, Outcome, outcome}
 use Rattle.shapes.specs.Shape.{headSize, bytesOf, wordsOf, width, roomRefusals}
 use Rattle.shapes.specs.declared.Shape.{Shape}
 use Rattle.rows.specs.Row.{rowNumbers}
-use Rattle.rows.specs.Calls.{Buffers, buffers}
+use Rattle.shapes.specs.Buffers.{Buffers, buffers}
 use Rattle.layers.specs.Layer.{written, zeros, place}
 use Rattle.layers.specs.Calls.{sideOf, cellRow, scaleRow}
 

@@ -18,7 +18,7 @@ ghost use lib.ListN.{length, replicate};
 ghost use Rattle.replies.specs.Reply.{replyNumber};
 ghost use Rattle.replies.specs.Outcome.{lowest, answered};
 ghost use Rattle.shapes.specs.Shape.{roomRefusals};
-ghost use Rattle.rows.specs.Calls.{buffers};
+ghost use Rattle.shapes.specs.Buffers.{buffers};
 ghost use Rattle.cells.specs.Calls.{appended, removed, rowAt};
 ghost use Rattle.cells.specs.Calls.{appendRefusals, removeRefusals, readRefusals, overfull, appendRowsOf, removeRowsOf, readRowOf};
 ghost use Rattle.cells.specs.Fits.{InRoom, RowIn, RowsIn};

@@ -15,14 +15,14 @@ use Rattle.replies.specs.Outcome.{_when_, lowest, outcome}
 use Rattle.replies.proofs.Refusals.{refused-before}
 use Rattle.shapes.specs.Shape.{ofFormat, cellBytes, scaleWords, total, cellTotal, scaleTotal, limits, within, exact, roomRefusals}
 use Rattle.shapes.specs.declared.Shape.{Shape}
-use Rattle.rows.specs.Calls.{Buffers}
+use Rattle.shapes.specs.Buffers.{Buffers}
 use Rattle.lists.specs.Bytes.{little}
 use Rattle.rows.specs.Row.{f32Cells, bf16Cells, int8Cells, int8Scales, int4Cells, int4Scales, rowCells, rowScales}
 use Rattle.layers.specs.Layer.{put, putSide, putLayer, written}
 use Rattle.cells.specs.Calls.{appended}
 use Rattle.store.specs.Record.{goodLengths}
 use Rattle.store.specs.Calls.{openOf, appendOf}
-use Rattle.blocks.specs.Order.{summed, groupDot, int4Dot, hasScores, rowDot, rowTerm, scoresOf, sumsOf}
+use Rattle.attention.specs.Order.{summed, groupDot, int4Dot, hasScores, rowDot, rowTerm, scoresOf, sumsOf}
 use Rattle.heads.specs.Calls.{scoresAt, sumsAt, headScoresOf, headSumsOf}
 use Rattle.examples.specs.Examples.{answer, Example, P, Opened, Outside, AllHold, examples}
 

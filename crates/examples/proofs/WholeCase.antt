@@ -13,8 +13,8 @@ use Rattle.cells.specs.Calls.{appended, removed}
 use Rattle.store.specs.Record.{goodLengths, byteCount}
 use Rattle.store.specs.Calls.{openOf, appendOf, truncateOf, memoryBytesOf}
 use Rattle.callfile.specs.Format.{numberAt, words, openAt, appendAt, truncateAt, advanceAt, kindAt, entryAt}
-use Rattle.lending.specs.Calls.{openIn, appendIn, truncateIn}
-use Rattle.texts.specs.Text.{spelled, answerText, spaced, reportText}
+use Rattle.arena.specs.Calls.{openIn, appendIn, truncateIn}
+use Rattle.printing.specs.Text.{spelled, answerText, spaced, reportText}
 use Rattle.replay.specs.Step.{reportOf, stepOf}
 use Rattle.replay.specs.Transcript.{walkFrom, playOf, transcript}
 use Rattle.examples.specs.WholeCase.{file, lines}

@@ -10,7 +10,7 @@ use Rattle.groups.specs.Group.{packed, unpacked}
 use Rattle.replies.specs.Outcome.{Outcome}
 use Rattle.shapes.specs.declared.Shape.{Shape}
 use Rattle.shapes.specs.Shape.{headSize, cellTotal, scaleTotal}
-use Rattle.rows.specs.Calls.{Buffers, buffers}
+use Rattle.shapes.specs.Buffers.{Buffers, buffers}
 use Rattle.store.specs.Calls.{Store, openOf, appendOf}
 use Rattle.heads.specs.Calls.{headScoresOf, headSumsOf}
 

@@ -17,11 +17,13 @@ use Rattle.layers.specs.Layer.{place}
 use Rattle.layers.specs.Calls.{placeOf}
 use Rattle.layers.proofs.SizeLaws.{cells-most, words-most}
 use Rattle.layers.proofs.SpanLaws.{PlaceIn, placed, place-in, place-small, block-length, block-row}
-use Rattle.rows.specs.Calls.{Buffers, buffers, tells}
-use Rattle.rows.proofs.FitLaws.{RowsFit, facts-fit, tried-left}
+use Rattle.shapes.specs.Buffers.{Buffers, buffers}
+use Rattle.replies.specs.Tried.{tells}
+use Rattle.replies.proofs.Tried.{tried-left}
+use Rattle.rows.proofs.FitLaws.{RowsFit, facts-fit}
 use Rattle.cells.specs.Calls.{cellsAt, scalesAt}
-use Rattle.blocks.specs.Block.{cellsOf, scalesOf, blockScores, blockSums, blockFits, blockScoresOf, blockSumsOf}
-use Rattle.blocks.proofs.OrderLaws.{scores-same, sums-same}
+use Rattle.attention.specs.Block.{cellsOf, scalesOf, blockScores, blockSums, blockFits, blockScoresOf, blockSumsOf}
+use Rattle.attention.proofs.OrderLaws.{scores-same, sums-same}
 use Rattle.heads.specs.Calls.{scoresAt, termAt, sumsAt}
 use Rattle.heads.specs.Fits.{InHead}
 

@@ -8,7 +8,7 @@ use lib.ListN.{length}
 use lib.Ieee.{Float}
 use Rattle.replies.specs.Outcome.{Applies, outcome}
 use Rattle.replies.proofs.Refusals.{exactly}
-use Rattle.rows.specs.Calls.{Buffers}
+use Rattle.shapes.specs.Buffers.{Buffers}
 use Rattle.store.specs.declared.Record.{Record}
 use Rattle.store.specs.Record.{lengthOf}
 use Rattle.store.specs.Calls.{storeRefusals}

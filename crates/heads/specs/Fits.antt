@@ -4,7 +4,7 @@ use mathlib.Core.Bool.{true}
 use Prim.Native.Nat.{ℕ, _≤_, _<_}
 use Rattle.shapes.specs.declared.Shape.{Shape}
 use Rattle.shapes.specs.Shape.{headSize, cellTotal, scaleTotal, limits}
-use Rattle.blocks.specs.Order.{hasScores}
+use Rattle.attention.specs.Order.{hasScores}
 
 -- m positions of a head, and both buffers; `given` is the size of a query or of an output
 pub record InHead (s : Shape) (l h given m cells scales : ℕ) : Type 0 where

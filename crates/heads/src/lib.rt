@@ -1,5 +1,5 @@
 // Heads: scores and weighted sums over a stored head. The Rust's `decode_head_attention_f32` and `decode_head_attention_int4`, cut at the softmax.
-use blocks::has_scores;
+use attention::has_scores;
 use layers::place_of;
 use replies::Reply;
 use replies::number;
@@ -17,7 +17,7 @@ ghost use lib.ListN.{length};
 ghost use Rattle.replies.specs.Reply.{replyNumber};
 ghost use Rattle.replies.specs.Outcome.{lowest, answered};
 ghost use Rattle.shapes.specs.Shape.{roomRefusals};
-ghost use Rattle.rows.specs.Calls.{buffers};
+ghost use Rattle.shapes.specs.Buffers.{buffers};
 ghost use Rattle.store.specs.Record.{lengthOf};
 ghost use Rattle.store.specs.Calls.{lengthsRefusal};
 ghost use Rattle.heads.specs.Calls.{scoresAt, sumsAt, headRefusals, headScoresOf, headSumsOf};

@@ -9,7 +9,7 @@ use Rattle.groups.specs.Group.{groupReply, packInto, unpackInto}
 use Rattle.replies.specs.Outcome.{Outcome}
 use Rattle.shapes.specs.declared.Need.{Need}
 use Rattle.shapes.specs.declared.Shape.{Shape}
-use Rattle.rows.specs.Calls.{Buffers}
+use Rattle.shapes.specs.Buffers.{Buffers}
 use Rattle.store.specs.declared.Record.{Record}
 use Rattle.store.specs.Calls.{Store, openOf, appendOf, truncateOf, advanceOf, cachedLenOf, memoryBytesOf, readOf}
 use Rattle.heads.specs.Calls.{headScoresOf, headSumsOf}

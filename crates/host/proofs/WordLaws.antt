@@ -13,7 +13,7 @@ use Rattle.replies.specs.Outcome.{Outcome, outcome, lowest}
 use Rattle.shapes.specs.Shape.{headSize, within, needOf}
 use Rattle.shapes.specs.declared.Need.{Need}
 use Rattle.shapes.specs.declared.Shape.{Shape}
-use Rattle.rows.specs.Calls.{buffers}
+use Rattle.shapes.specs.Buffers.{buffers}
 use Rattle.store.specs.Record.{seqLen}
 use Rattle.store.specs.Calls.{Store, store}
 use Rattle.store.specs.declared.Record.{Record}

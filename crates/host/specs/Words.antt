@@ -7,7 +7,7 @@ use Rattle.replies.specs.Outcome.{_when_, Outcome, outcome}
 use Rattle.shapes.specs.Shape.{headSize, cellTotal, scaleTotal, within}
 use Rattle.shapes.specs.declared.Need.{Need}
 use Rattle.shapes.specs.declared.Shape.{Shape}
-use Rattle.rows.specs.Calls.{buffers}
+use Rattle.shapes.specs.Buffers.{buffers}
 use Rattle.store.specs.Record.{seqLen}
 use Rattle.store.specs.Calls.{Store, store}
 use Rattle.store.specs.declared.Record.{Record}

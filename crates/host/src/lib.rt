@@ -16,7 +16,7 @@ ghost use Rattle.numbers.specs.Word.{word, bf16, fromBf16};
 ghost use Rattle.numbers.specs.Scale.{scaleOf};
 ghost use Rattle.numbers.specs.Code.{code8, code4, read8};
 ghost use Rattle.groups.specs.Group.{groupReply, packInto, unpackInto};
-ghost use Rattle.rows.specs.Calls.{buffers};
+ghost use Rattle.shapes.specs.Buffers.{buffers};
 ghost use Rattle.store.specs.Calls.{openOf, appendOf, truncateOf, advanceOf, cachedLenOf, memoryBytesOf, readOf};
 ghost use Rattle.heads.specs.Calls.{headScoresOf, headSumsOf};
 ghost use Rattle.host.specs.Words.{recordOf, shapeOf, need, needTold, seen, told};

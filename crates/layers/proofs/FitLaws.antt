@@ -11,8 +11,9 @@ use borrow.Author.Tests.{le-leb, lt-leb, leb-true, eq-eqb, eqb-true}
 use Rattle.replies.proofs.Flags.{both, both-true}
 use Rattle.shapes.specs.declared.Shape.{Shape}
 use Rattle.shapes.specs.Shape.{bytesOf, wordsOf, width}
-use Rattle.rows.specs.Calls.{Buffers, buffers, tells}
-use Rattle.rows.proofs.FitLaws.{tried-left}
+use Rattle.shapes.specs.Buffers.{Buffers, buffers}
+use Rattle.replies.specs.Tried.{tells}
+use Rattle.replies.proofs.Tried.{tried-left}
 use Rattle.layers.specs.Layer.{layerSize, putLayer, zeros}
 use Rattle.layers.specs.Calls.{sideOf, cellRow, scaleRow, layerFits, numbersFit, putLayerOf, clearLayerOf}
 use Rattle.layers.specs.Fits.{Fits}

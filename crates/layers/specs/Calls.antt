@@ -9,7 +9,8 @@ use Rattle.lists.specs.Chunks.{part}
 use Rattle.shapes.specs.Shape.{headSize, bytesOf, wordsOf, width, limits}
 use Rattle.shapes.specs.declared.Shape.{Shape}
 use Rattle.rows.specs.Row.{rowCells, rowScales}
-use Rattle.rows.specs.Calls.{Buffers, buffers, Tried, tried}
+use Rattle.shapes.specs.Buffers.{Buffers, buffers}
+use Rattle.replies.specs.Tried.{Tried, tried}
 use Rattle.layers.specs.Layer.{layerSize, putLayer, zeros, place}
 
 -- position first, then head: the numbers of head h in position i

@@ -3,8 +3,8 @@ use mathlib.Core.Path.{_≡_, sym, ap, _∙_}
 use mathlib.Core.List.{List}
 use Prim.Native.Nat.{ℕ}
 use Rattle.store.specs.declared.Record.{Record}
-use Rattle.texts.specs.Text.{Laid}
-use Rattle.texts.proofs.LaidLaws.{laid-determined}
+use Rattle.printing.specs.Text.{Laid}
+use Rattle.printing.proofs.LaidLaws.{laid-determined}
 use Rattle.replay.specs.declared.Played.{Played}
 use Rattle.replay.specs.Step.{Walk}
 use Rattle.replay.specs.Transcript.{Play, played}

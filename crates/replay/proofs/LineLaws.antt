@@ -17,7 +17,7 @@ use Rattle.store.proofs.StoreLaws.{Sound, sound-record, sound-limits, held-in}
 use Rattle.callfile.specs.declared.Entry.{Entry}
 use Rattle.callfile.specs.declared.Entry.the-variants.{Open, Append, Truncate, Advance, Report, End, Bad}
 use Rattle.callfile.specs.Format.{entryAt, sizeOf}
-use Rattle.texts.proofs.TextLaws.{answer-most, report-most, bad-most}
+use Rattle.printing.proofs.TextLaws.{answer-most, report-most, bad-most}
 use Rattle.replay.specs.Step.{Walk, reported, reportOf, effectOf, stepOf}
 use Rattle.replay.specs.Transcript.{textOf}
 

@@ -4,10 +4,10 @@ use mathlib.Core.Path.{_≡_, refl}
 use mathlib.Core.List.{List}
 use Rattle.replies.specs.Outcome.{lowest, outcome}
 use Rattle.shapes.specs.Shape.{limits, within, total}
-use Rattle.rows.specs.Calls.{Buffers}
+use Rattle.shapes.specs.Buffers.{Buffers}
 use Rattle.store.specs.Calls.{appendOf, truncateOf, advanceOf, memoryBytesOf}
 use Rattle.callfile.specs.declared.Entry.the-variants.{Append, Truncate, Advance, Report}
-use Rattle.lending.specs.Calls.{appendIn, truncateIn}
+use Rattle.arena.specs.Calls.{appendIn, truncateIn}
 use Rattle.replay.specs.Step.{answer, reportOf, advanceIn, effectOf}
 use Rattle.replay.specs.Transcript.{start}
 

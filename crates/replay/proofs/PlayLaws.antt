@@ -5,11 +5,11 @@ use mathlib.Core.List.{List, [], _++_, append-assoc}
 use Prim.Native.Nat.{ℕ, _+_, _-_, _*_, _≤_, _<_}
 use native.Mathlib.Omega.{arith}
 use lib.ListN.{length}
-use Rattle.rows.specs.Calls.{Buffers}
-use Rattle.texts.specs.Place.{Placed}
-use Rattle.texts.specs.Text.{Laid}
-use Rattle.texts.proofs.LaidLaws.{placed-laid}
-use Rattle.texts.proofs.PlaceLaws.{placed-none, placed-then, placed-length}
+use Rattle.shapes.specs.Buffers.{Buffers}
+use Rattle.printing.specs.Place.{Placed}
+use Rattle.printing.specs.Text.{Laid}
+use Rattle.printing.proofs.LaidLaws.{placed-laid}
+use Rattle.printing.proofs.PlaceLaws.{placed-none, placed-then, placed-length}
 use Rattle.replay.specs.Step.{stepOf}
 use Rattle.replay.specs.Transcript.{textOf, start, Whole, headed, walkFrom, Play, laidOut}
 use Rattle.replay.specs.Turn.{turned}

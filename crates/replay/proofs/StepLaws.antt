@@ -12,10 +12,10 @@ use Rattle.store.specs.Calls.{Store, left}
 use Rattle.callfile.specs.declared.Entry.{Entry}
 use Rattle.callfile.specs.Format.{words, entryAt, sizeOf, placeAfter, wordsRead}
 use Rattle.callfile.proofs.FormatLaws.{words-length, words-read}
-use Rattle.lending.specs.Calls.{appendIn}
-use Rattle.texts.specs.Place.{over}
-use Rattle.texts.specs.Text.{Laid, laidAt}
-use Rattle.texts.proofs.LaidLaws.{laid-there}
+use Rattle.arena.specs.Calls.{appendIn}
+use Rattle.printing.specs.Place.{over}
+use Rattle.printing.specs.Text.{Laid, laidAt}
+use Rattle.printing.proofs.LaidLaws.{laid-there}
 use Rattle.replay.specs.declared.Told.{Told}
 use Rattle.replay.specs.Step.{Printed, Effect, answers, effectOf, walk, Step, stepOf, effect, told}
 use Rattle.replay.specs.Transcript.{textOf, Play}

@@ -6,7 +6,7 @@ use lib.Dec.{eqb}
 use lib.ListN.{take}
 use Rattle.replies.specs.Reply.{replyNumber}
 use Rattle.replies.specs.Outcome.{Outcome}
-use Rattle.rows.specs.Calls.{buffers}
+use Rattle.shapes.specs.Buffers.{buffers}
 use Rattle.store.specs.Record.{seqLen}
 use Rattle.store.specs.Calls.{Store, store, advanceOf, memoryBytesOf}
 use Rattle.store.specs.declared.Changed.{Changed}
@@ -14,7 +14,7 @@ use Rattle.store.specs.declared.Record.{Record}
 use Rattle.callfile.specs.Format.{entryAt, placeAfter, keysAt, valuesAt}
 use Rattle.callfile.specs.declared.Entry.{Entry}
 use Rattle.callfile.specs.declared.Entry.the-variants.{Open, Append, Truncate, Advance, Report, End, Bad}
-use Rattle.lending.specs.Calls.{openIn, appendIn, truncateIn}
+use Rattle.arena.specs.Calls.{openIn, appendIn, truncateIn}
 use Rattle.replay.specs.declared.Line.{Line}
 use Rattle.replay.specs.declared.Line.the-variants.{Answer, Counts, Stop, Nothing}
 use Rattle.replay.specs.declared.Told.{Told}

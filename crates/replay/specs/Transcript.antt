@@ -4,10 +4,10 @@ use mathlib.Core.Bool.{cond}
 use mathlib.Core.List.{List, [], _++_}
 use lib.Dec.{ltb, leb}
 use lib.ListN.{length, replicate}
-use Rattle.rows.specs.Calls.{Buffers, buffers}
+use Rattle.shapes.specs.Buffers.{Buffers, buffers}
 use Rattle.store.specs.Record.{newRecord}
 use Rattle.store.specs.Calls.{noShape, store}
-use Rattle.texts.specs.Text.{answerText, reportText, badText, Laid, laid}
+use Rattle.printing.specs.Text.{answerText, reportText, badText, Laid, laid}
 use Rattle.replay.specs.declared.Played.{Played}
 use Rattle.replay.specs.Step.{Printed, answer, report, badAt, nothing, Walk, walk, stepOf}
 

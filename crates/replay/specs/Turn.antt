@@ -2,7 +2,7 @@
 use Prim.Native.Nat.{ℕ, _+_}
 use mathlib.Core.List.{List}
 use lib.ListN.{length}
-use Rattle.texts.specs.Place.{over}
+use Rattle.printing.specs.Place.{over}
 use Rattle.replay.specs.Step.{stepOf}
 use Rattle.replay.specs.Transcript.{textOf, Play}
 

@@ -2,12 +2,12 @@
 mod lines;
 mod walk;
 
+use arena::append_in;
+use arena::open_in;
+use arena::truncate_in;
 use callfile::Entry;
 use callfile::read_words;
-use lending::append_in;
-use lending::open_in;
-use lending::truncate_in;
-use lines::line_text;
+use printing::bad_text;
 use replies::Reply;
 use replies::number;
 use store::Changed;
@@ -15,16 +15,16 @@ use store::Record;
 use store::advance_seq_len;
 use store::memory_bytes;
 use store::not_open;
-use texts::bad_text;
+use test_lines::line_text;
 use walk::walk_file;
 ghost use mathlib.Core.Path.{_≡_};
 ghost use Prim.Native.Nat.{_+_, _*_, _≤_};
 ghost use lib.ListN.{length, take};
-ghost use Rattle.rows.specs.Calls.{buffers};
+ghost use Rattle.shapes.specs.Buffers.{buffers};
 ghost use Rattle.store.specs.Calls.{store, left};
 ghost use Rattle.callfile.specs.Format.{words, entryAt, keysAt, valuesAt};
-ghost use Rattle.lending.specs.Calls.{appendIn};
-ghost use Rattle.texts.specs.Text.{laid, laidAt};
+ghost use Rattle.arena.specs.Calls.{appendIn};
+ghost use Rattle.printing.specs.Text.{laid, laidAt};
 ghost use Rattle.replay.specs.Step.{printed, reportOf, effectOf, effect, told};
 ghost use Rattle.replay.specs.Transcript.{textOf, atHand, transcript, playOf, playIn, played};
 

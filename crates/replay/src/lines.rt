@@ -1,12 +1,12 @@
 // The line of each record as bytes.
 use super::Line;
+use printing::answer_text;
+use printing::bad_text;
+use printing::report_text;
 use replies::number;
 use store::Record;
-use texts::answer_text;
-use texts::bad_text;
-use texts::report_text;
 ghost use mathlib.Core.Path.{_≡_};
-ghost use Rattle.texts.specs.Text.{laidAt};
+ghost use Rattle.printing.specs.Text.{laidAt};
 ghost use Rattle.replay.specs.Step.{printed, reported};
 ghost use Rattle.replay.specs.Transcript.{textOf};
 

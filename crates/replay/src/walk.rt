@@ -11,7 +11,7 @@ use store::not_open;
 ghost use mathlib.Core.Path.{_≡_};
 ghost use Prim.Native.Nat.{_+_, _≤_};
 ghost use lib.ListN.{length};
-ghost use Rattle.rows.specs.Calls.{buffers};
+ghost use Rattle.shapes.specs.Buffers.{buffers};
 ghost use Rattle.store.specs.Record.{newRecord};
 ghost use Rattle.store.specs.Calls.{noShape};
 ghost use Rattle.callfile.specs.Format.{entryAt};

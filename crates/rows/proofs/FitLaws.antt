@@ -1,6 +1,6 @@
 -- What rows that fit are known by, in all and in each format, and what a call leaves of one.
 -- Each holds by the tests that rows pass, one by one.
-use mathlib.Core.Path.{_≡_, ap, _∙_}
+use mathlib.Core.Path.{_≡_, ap}
 use mathlib.Core.Bool.{Bool, true}
 use mathlib.Core.List.{List}
 use Prim.Native.Nat.{ℕ, _*_, _%_, _≤_}
@@ -13,7 +13,10 @@ use Rattle.shapes.specs.declared.Shape.{Shape}
 use Rattle.shapes.specs.Shape.{headSize, ofFormat, cellBytes, scaleWords, bytesOf, wordsOf, limits}
 use Rattle.shapes.proofs.ShapeLaws.{limits-facts}
 use Rattle.rows.specs.Row.{rowCells, rowScales, rowNumbers}
-use Rattle.rows.specs.Calls.{Buffers, buffers, Tried, tells, tried, rowsFit, putRowOf, getRowOf}
+use Rattle.shapes.specs.Buffers.{Buffers, buffers}
+use Rattle.replies.specs.Tried.{tells}
+use Rattle.replies.proofs.Tried.{tried-left}
+use Rattle.rows.specs.Calls.{rowsFit, putRowOf, getRowOf}
 
 -- what m rows that fit are known by, both ways
 pub record RowsFit (format d m cells scales : ℕ) : Type 0 where
@@ -97,14 +100,6 @@ module _ {d cells scales : ℕ} where
   pub int4-fits : RowFits 3 d cells scales → (d ≡ scales * 32) × (cells ≡ scales * 16)
   unfolding cellBytes scaleWords ofFormat
   int4-fits h = omega arith
-
--- a call on what fits: what it tells, and what it left
-module _ {A : Type 0} {fits : Bool} (new old : A) (e : fits ≡ true) where
-  pub tried-done : {x : A} → x ≡ new → tells true x ≡ tried fits new old
-  tried-done q = rw (e, q)
-
-  pub tried-left : {done : Bool} {x : A} → tells done x ≡ tried fits new old → x ≡ new
-  tried-left q = ap (λ (o : Tried A). o .left) q ∙ rw e
 
 -- what each call leaves of a row that fits
 pub put-left : {format : ℕ} {done : Bool} (run cells scales : List ℕ) {x y : List ℕ} → RowFits format (length run) (length cells) (length scales)

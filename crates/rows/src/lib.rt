@@ -24,7 +24,9 @@ ghost use Rattle.groups.specs.Group.{packed};
 ghost use Rattle.lists.specs.Bytes.{little, fromLittle};
 ghost use Rattle.rows.specs.Row.{f32Cells, f32Numbers, bf16Cells, bf16Numbers, int8Cells, int8Scales, int8Numbers};
 ghost use Rattle.rows.specs.Row.{int4Cells, int4Scales, int4Numbers};
-ghost use Rattle.rows.specs.Calls.{buffers, tells, rowsFit, putRowOf, getRowOf};
+ghost use Rattle.shapes.specs.Buffers.{buffers};
+ghost use Rattle.replies.specs.Tried.{tells};
+ghost use Rattle.rows.specs.Calls.{rowsFit, putRowOf, getRowOf};
 
 // Writes the cells and the scale words of a run, where what is lent is such a row, and answers whether it is.
 pub fn put_row(format: u32, run: &[u32], cells: &mut [u8], scales: &mut [u32]) -> bool

@@ -8,8 +8,8 @@ use lib.ListN.{length, getD}
 use lib.Ieee.{Float, binary32, add, mul}
 use Rattle.lists.specs.Chunks.{part}
 use Rattle.numbers.specs.Word.{float}
-use Rattle.blocks.specs.Order.{summed, groupDot, int4Dot}
-use Rattle.blocks.proofs.OrderLaws.{summed-next}
+use Rattle.attention.specs.Order.{summed, groupDot, int4Dot}
+use Rattle.attention.proofs.OrderLaws.{summed-next}
 
 module _ (query : List Float) (cells scales : List ℕ) where
   -- group g's sum, and that times its scale

@@ -15,7 +15,7 @@ use Rattle.lists.proofs.Bytes.{from-byte, from-drop}
 use Rattle.lists.proofs.Turns.{turns-next}
 use Rattle.numbers.specs.Code.{less8}
 use Rattle.groups.specs.Group.{codeAt}
-use Rattle.blocks.specs.Order.{addByte}
+use Rattle.attention.specs.Order.{addByte}
 
 -- a code of a number's lowest byte
 low-code : (n j : ℕ) → j ≤ 4 → n % 256 / 2 ^ j % 16 ≡ n / 2 ^ j % 16

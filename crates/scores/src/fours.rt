@@ -10,10 +10,10 @@ ghost use lib.Ieee.{binary32, add, mul};
 ghost use Rattle.lists.specs.Chunks.{part};
 ghost use Rattle.numbers.specs.Word.{float, word};
 ghost use Rattle.rows.specs.Row.{f32At};
-ghost use Rattle.rows.specs.Calls.{buffers};
-ghost use Rattle.blocks.specs.Order.{f32Dot};
-ghost use Rattle.blocks.specs.Block.{blockScores};
-ghost use Rattle.blocks.specs.Fits.{Rows, IsF32};
+ghost use Rattle.shapes.specs.Buffers.{buffers};
+ghost use Rattle.attention.specs.Order.{f32Dot};
+ghost use Rattle.attention.specs.Block.{blockScores};
+ghost use Rattle.attention.specs.Fits.{Rows, IsF32};
 
 // A number for each of four rows.
 pub(crate) struct Four {

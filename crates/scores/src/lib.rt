@@ -3,7 +3,7 @@ pub(crate) mod fours;
 pub(crate) mod rest;
 pub(crate) mod words;
 
-use blocks::block_fits;
+use attention::block_fits;
 use fours::cells_of;
 use fours::put_four;
 use fours::scales_of;
@@ -15,9 +15,10 @@ ghost use mathlib.Core.Path.{_≡_};
 ghost use mathlib.Core.List.{_++_};
 ghost use Prim.Native.Nat.{_≤_};
 ghost use lib.ListN.{length, drop};
-ghost use Rattle.rows.specs.Calls.{buffers, tells};
-ghost use Rattle.blocks.specs.Block.{blockScores, blockScoresOf};
-ghost use Rattle.blocks.specs.Fits.{Rows};
+ghost use Rattle.shapes.specs.Buffers.{buffers};
+ghost use Rattle.replies.specs.Tried.{tells};
+ghost use Rattle.attention.specs.Block.{blockScores, blockScoresOf};
+ghost use Rattle.attention.specs.Fits.{Rows};
 
 // Scores as many positions as `out` has places, under a query, and answers whether what is lent is such a block. The first half of the Rust's `decode_head_attention_f32` and `decode_head_attention_int4`.
 pub fn block_scores(

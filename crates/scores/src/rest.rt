@@ -10,11 +10,11 @@ ghost use Prim.Native.Nat.{_+_, _*_, _≤_};
 ghost use lib.ListN.{length};
 ghost use lib.Ieee.{binary32, mul};
 ghost use Rattle.numbers.specs.Word.{float};
-ghost use Rattle.rows.specs.Calls.{buffers};
+ghost use Rattle.shapes.specs.Buffers.{buffers};
 ghost use Rattle.rows.specs.Row.{f32At};
-ghost use Rattle.blocks.specs.Block.{blockScores};
-ghost use Rattle.blocks.specs.Order.{f32Dot, groupDot, int4Dot, rowDot};
-ghost use Rattle.blocks.specs.Fits.{Rows, IsF32, IsInt4};
+ghost use Rattle.attention.specs.Block.{blockScores};
+ghost use Rattle.attention.specs.Order.{f32Dot, groupDot, int4Dot, rowDot};
+ghost use Rattle.attention.specs.Fits.{Rows, IsF32, IsInt4};
 
 pub(crate) fn score_rest(
     format: u32,

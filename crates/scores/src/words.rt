@@ -9,8 +9,8 @@ ghost use lib.Ieee.{binary32, add, mul};
 ghost use Rattle.lists.specs.Chunks.{turns, part};
 ghost use Rattle.numbers.specs.Word.{float};
 ghost use Rattle.numbers.specs.Code.{less8};
-ghost use Rattle.blocks.specs.Order.{addByte, groupDot, int4Dot};
-ghost use Rattle.blocks.specs.Fits.{IsInt4};
+ghost use Rattle.attention.specs.Order.{addByte, groupDot, int4Dot};
+ghost use Rattle.attention.specs.Fits.{IsInt4};
 
 // The code less 8 that begins at bit `from` of a word. The cast is at 32 bits, which the back end packs.
 fn code_in(word: u32, from: u32) -> f32

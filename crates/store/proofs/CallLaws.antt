@@ -11,7 +11,7 @@ use Rattle.replies.specs.Outcome.{Refusal, lowest}
 use Rattle.replies.proofs.Refusals.{lowest-none, passed-before, refused-within, done-within, given-number, outcome-same, outcome-done}
 use Rattle.shapes.specs.Shape.{cellTotal, scaleTotal}
 use Rattle.shapes.specs.declared.Shape.{Shape}
-use Rattle.rows.specs.Calls.{Buffers, buffers}
+use Rattle.shapes.specs.Buffers.{Buffers, buffers}
 use Rattle.cells.specs.Calls.{positions, room, hasLayer, appendRefusals, removeRefusals, readRefusals, overfull, appendRowsOf, removeRowsOf, readRowOf}
 use Rattle.store.specs.declared.Record.{Record}
 use Rattle.store.specs.Record.{lengthOf, newRecord, withLength, Grows}

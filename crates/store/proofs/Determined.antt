@@ -7,7 +7,7 @@ use Rattle.replies.specs.Outcome.{Outcome}
 use Rattle.replies.specs.declared.Reply.{Reply}
 use Rattle.replies.proofs.Coincide.{One, coincide}
 use Rattle.shapes.specs.declared.Shape.{Shape}
-use Rattle.rows.specs.Calls.{Buffers}
+use Rattle.shapes.specs.Buffers.{Buffers}
 use Rattle.store.specs.declared.Record.{Record}
 use Rattle.store.specs.declared.Changed.{Changed}
 use Rattle.store.specs.declared.Counted.{Counted}

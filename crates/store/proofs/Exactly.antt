@@ -10,7 +10,7 @@ use lib.ListN.{length}
 use Rattle.replies.specs.Outcome.{_when_, Applies, outcome}
 use Rattle.replies.proofs.Refusals.{exactly}
 use Rattle.shapes.specs.declared.Shape.{Shape}
-use Rattle.rows.specs.Calls.{Buffers}
+use Rattle.shapes.specs.Buffers.{Buffers}
 use Rattle.cells.specs.Calls.{room, appendRefusals, removeRefusals, readRefusals}
 use Rattle.store.specs.declared.Record.{Record}
 use Rattle.store.specs.Record.{seqLen, lengthOf}

@@ -12,7 +12,7 @@ use Rattle.replies.specs.Outcome.{lowest}
 use Rattle.replies.proofs.Refusals.{None, lowest-none}
 use Rattle.shapes.specs.Shape.{bytesOf, wordsOf, cellTotal, scaleTotal, within}
 use Rattle.shapes.proofs.ShapeLaws.{Limits, limits-facts, within-limits, exact-sizes, cell-bytes-most, scale-words-most}
-use Rattle.rows.specs.Calls.{Buffers}
+use Rattle.shapes.specs.Buffers.{Buffers}
 use Rattle.cells.specs.Calls.{room}
 use Rattle.shapes.specs.declared.Shape.{Shape}
 use Rattle.store.specs.declared.Record.{Record}

@@ -7,7 +7,7 @@ use lib.ListN.{length, replicate}
 use Rattle.replies.specs.Outcome.{Refusal, _when_, Outcome, outcome, answered}
 use Rattle.shapes.specs.Shape.{cellTotal, scaleTotal, within}
 use Rattle.shapes.specs.declared.Shape.{Shape}
-use Rattle.rows.specs.Calls.{Buffers, buffers}
+use Rattle.shapes.specs.Buffers.{Buffers, buffers}
 use Rattle.cells.specs.Calls.{positions, appended, removed, rowAt, room, appendRefusals, removeRefusals, readRefusals}
 use Rattle.store.specs.declared.Record.{Record}
 use Rattle.store.specs.declared.Changed.{Changed}

@@ -16,7 +16,7 @@ ghost use Prim.Native.Nat.{_+_, _<_, min};
 ghost use Rattle.replies.specs.Reply.{replyNumber};
 ghost use Rattle.replies.specs.Outcome.{lowest, answered};
 ghost use Rattle.shapes.specs.Shape.{within, roomRefusals};
-ghost use Rattle.rows.specs.Calls.{buffers};
+ghost use Rattle.shapes.specs.Buffers.{buffers};
 ghost use Rattle.cells.specs.Calls.{positions};
 ghost use Rattle.store.specs.Record.{lengthOf, mostOf, goodLengths, newRecord, withLength, positionBytes, byteCount, Grows};
 ghost use Rattle.store.specs.Calls.{noShape, left, changed, counted, lengthsRefusal, recordRefusals};

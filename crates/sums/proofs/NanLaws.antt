@@ -14,7 +14,7 @@ use Rattle.lists.proofs.Some.{some-none, some-never, sum-none}
 use Rattle.lists.proofs.Turns.{turns-add}
 use Rattle.rows.specs.Row.{f32At}
 use Rattle.rows.proofs.FitLaws.{fits-facts}
-use Rattle.blocks.specs.Fits.{Rows, IsF32}
+use Rattle.attention.specs.Fits.{Rows, IsF32}
 use Rattle.sums.proofs.SumLaws.{bytes, half}
 
 -- 1 for what holds, 0 for what does not

@@ -12,8 +12,8 @@ use lib.Ieee.{Float, nan, binary32, add, mul}
 use Rattle.lists.specs.Chunks.{part}
 use Rattle.lists.proofs.Tab.{tab-add, tab-same}
 use Rattle.numbers.specs.Word.{float}
-use Rattle.blocks.specs.Order.{codeFrom, groupCode, int4Term, added}
-use Rattle.blocks.proofs.OrderLaws.{addedTo, added-next, added-all}
+use Rattle.attention.specs.Order.{codeFrom, groupCode, int4Term, added}
+use Rattle.attention.proofs.OrderLaws.{addedTo, added-next, added-all}
 
 -- the two halves of a group's sums: the low codes' terms added at the first i of 16 places, and the high ones' at the first i of the next 16
 module _ (x : Float) (bytes : List ℕ) (l : List Float) where

@@ -13,12 +13,12 @@ use Rattle.lists.proofs.Tab.{tab-length, tab-same}
 use Rattle.lists.proofs.Turns.{turns-same, turns-add}
 use Rattle.shapes.specs.Shape.{ofFormat, cellBytes, scaleWords}
 use Rattle.rows.specs.Row.{f32At}
-use Rattle.rows.specs.Calls.{buffers}
+use Rattle.shapes.specs.Buffers.{buffers}
 use Rattle.rows.proofs.FitLaws.{fits-facts}
-use Rattle.blocks.specs.Order.{f32Term, rowTerm, added}
-use Rattle.blocks.specs.Block.{blockTerm}
-use Rattle.blocks.specs.Fits.{Rows}
-use Rattle.blocks.proofs.PartLaws.{rows-inside, some-rows}
+use Rattle.attention.specs.Order.{f32Term, rowTerm, added}
+use Rattle.attention.specs.Block.{blockTerm}
+use Rattle.attention.specs.Fits.{Rows}
+use Rattle.attention.proofs.PartLaws.{rows-inside, some-rows}
 
 pub bytes : (d : ℕ) → d * 4 ≡ cellBytes 0 d
 unfolding cellBytes ofFormat

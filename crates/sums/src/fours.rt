@@ -9,11 +9,11 @@ ghost use Prim.Native.Nat.{_+_, _*_, _≤_};
 ghost use lib.ListN.{length};
 ghost use lib.Ieee.{binary32, add, nanBits};
 ghost use Rattle.lists.specs.Chunks.{turns, some, part};
-ghost use Rattle.rows.specs.Calls.{buffers};
+ghost use Rattle.shapes.specs.Buffers.{buffers};
 ghost use Rattle.rows.specs.Row.{f32At};
-ghost use Rattle.blocks.specs.Order.{f32Term, added};
-ghost use Rattle.blocks.specs.Block.{blockTerm};
-ghost use Rattle.blocks.specs.Fits.{Rows, IsF32};
+ghost use Rattle.attention.specs.Order.{f32Term, added};
+ghost use Rattle.attention.specs.Block.{blockTerm};
+ghost use Rattle.attention.specs.Fits.{Rows, IsF32};
 
 // Adds the terms of F32 rows, four at a time while four more lie behind them, and what is left row by row.
 pub(crate) fn add_f32_rows(weights: &[f32], cells: &[u8], scales: &[u32], out: &mut [f32])

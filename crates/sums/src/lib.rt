@@ -3,7 +3,7 @@ pub(crate) mod fours;
 pub(crate) mod rest;
 pub(crate) mod stored;
 
-use blocks::block_fits;
+use attention::block_fits;
 use fours::add_f32_rows;
 use numbers::words::f32_to_word;
 use rest::add_rest;
@@ -12,10 +12,11 @@ ghost use mathlib.Core.List.{map};
 ghost use lib.ListN.{length, replicate};
 ghost use Rattle.lists.specs.Chunks.{turns};
 ghost use Rattle.numbers.specs.Word.{float, word};
-ghost use Rattle.rows.specs.Calls.{buffers, tells};
-ghost use Rattle.blocks.specs.Order.{added};
-ghost use Rattle.blocks.specs.Block.{blockTerm, blockSums, blockSumsOf};
-ghost use Rattle.blocks.specs.Fits.{Rows};
+ghost use Rattle.shapes.specs.Buffers.{buffers};
+ghost use Rattle.replies.specs.Tried.{tells};
+ghost use Rattle.attention.specs.Order.{added};
+ghost use Rattle.attention.specs.Block.{blockTerm, blockSums, blockSumsOf};
+ghost use Rattle.attention.specs.Fits.{Rows};
 
 // Sums as many positions as there are weights, and answers whether what is lent is such a block. The second half of the Rust's `decode_head_attention_f32` and `decode_head_attention_int4`.
 pub fn block_sums(

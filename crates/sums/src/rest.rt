@@ -8,10 +8,10 @@ ghost use mathlib.Core.Path.{_≡_};
 ghost use lib.ListN.{length};
 ghost use lib.Ieee.{binary32, mul};
 ghost use Rattle.lists.specs.Chunks.{turns};
-ghost use Rattle.rows.specs.Calls.{buffers};
-ghost use Rattle.blocks.specs.Order.{groupCode, f32Term, int4Term, rowTerm, added};
-ghost use Rattle.blocks.specs.Block.{blockTerm};
-ghost use Rattle.blocks.specs.Fits.{Rows, IsF32, IsInt4};
+ghost use Rattle.shapes.specs.Buffers.{buffers};
+ghost use Rattle.attention.specs.Order.{groupCode, f32Term, int4Term, rowTerm, added};
+ghost use Rattle.attention.specs.Block.{blockTerm};
+ghost use Rattle.attention.specs.Fits.{Rows, IsF32, IsInt4};
 
 // Adds the terms of each row, one row after the other.
 pub(crate) fn add_rest(format: u32, weights: &[f32], cells: &[u8], scales: &[u32], out: &mut [f32])

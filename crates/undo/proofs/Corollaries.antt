@@ -6,7 +6,7 @@ use lib.ListN.{replicate}
 use borrow.Author.Tests.{le-ltb}
 use Rattle.shapes.specs.declared.Shape.{Shape}
 use Rattle.shapes.specs.Shape.{bytesOf, wordsOf}
-use Rattle.rows.specs.Calls.{Buffers}
+use Rattle.shapes.specs.Buffers.{Buffers}
 use Rattle.layers.proofs.PlaceLaws.{Place}
 use Rattle.cells.specs.Calls.{cellsAt, scalesAt}
 use Rattle.store.specs.Record.{lengthOf, goodLengths, byteCount}

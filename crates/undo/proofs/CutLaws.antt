@@ -12,7 +12,7 @@ use lib.Seq.{take-all, length-take-le}
 use Rattle.shapes.specs.declared.Shape.{Shape}
 use Rattle.shapes.specs.Shape.{bytesOf, wordsOf, width, total}
 use Rattle.rows.specs.Row.{rowCells, rowScales}
-use Rattle.rows.specs.Calls.{Buffers}
+use Rattle.shapes.specs.Buffers.{Buffers}
 use Rattle.layers.specs.Layer.{zeros}
 use Rattle.layers.proofs.LayerLaws.{written-none}
 use Rattle.layers.proofs.PlaceLaws.{Written}

@@ -13,7 +13,7 @@ use Rattle.shapes.specs.declared.Shape.{Shape}
 use Rattle.shapes.specs.Shape.{bytesOf, wordsOf, width, total, cellTotal, scaleTotal, limits}
 use Rattle.shapes.proofs.ShapeLaws.{limits-facts, cell-bytes-most, scale-words-most}
 use Rattle.rows.specs.Row.{rowCells, rowScales}
-use Rattle.rows.specs.Calls.{Buffers, buffers}
+use Rattle.shapes.specs.Buffers.{Buffers, buffers}
 use Rattle.layers.specs.Layer.{written}
 use Rattle.layers.proofs.LayerLaws.{written-keeps}
 use Rattle.layers.proofs.PlaceLaws.{Written}

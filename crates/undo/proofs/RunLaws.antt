@@ -12,7 +12,7 @@ use Rattle.replies.proofs.Refusals.{lowest-none, none-lowest}
 use Rattle.shapes.specs.declared.Shape.{Shape}
 use Rattle.cells.specs.Calls.{appendRefusals, removeRefusals}
 use Rattle.cells.proofs.ReplyLaws.{append-fits}
-use Rattle.rows.specs.Calls.{Buffers}
+use Rattle.shapes.specs.Buffers.{Buffers}
 use Rattle.store.specs.declared.Record.{Record}
 use Rattle.store.specs.Record.{seqLen, lengthOf, withSeqLen}
 use Rattle.store.specs.Calls.{Store, store, storeRefusals, recordRefusals, appendOf, truncateOf, advanceOf}

@@ -17,7 +17,7 @@ use Rattle.replies.proofs.Refusals.{None, lowest-none, none-lowest}
 use Rattle.shapes.specs.declared.Shape.{Shape}
 use Rattle.shapes.specs.Shape.{width, cellTotal, scaleTotal, within, exact}
 use Rattle.shapes.proofs.ShapeLaws.{limits-facts, within-limits, width-in}
-use Rattle.rows.specs.Calls.{Buffers}
+use Rattle.shapes.specs.Buffers.{Buffers}
 use Rattle.cells.specs.Calls.{room}
 use Rattle.cells.specs.Fits.{InRoom}
 use Rattle.store.specs.declared.Record.{Record}

@@ -2,7 +2,7 @@
 use mathlib.Core.Path.{_≡_, sym}
 use mathlib.Core.List.{List}
 use Rattle.shapes.specs.declared.Shape.{Shape}
-use Rattle.rows.specs.Calls.{Buffers}
+use Rattle.shapes.specs.Buffers.{Buffers}
 use Rattle.store.specs.Calls.{openOf}
 use Rattle.undo.specs.Sequence.{Call, accepted}
 use Rattle.undo.specs.Survivors.{noRows, oneAppendEach}

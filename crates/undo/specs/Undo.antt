@@ -5,7 +5,7 @@ use mathlib.Core.List.{List}
 use Prim.Native.Nat.{ℕ}
 use lib.Ieee.{Float}
 use Rattle.shapes.specs.declared.Shape.{Shape}
-use Rattle.rows.specs.Calls.{Buffers}
+use Rattle.shapes.specs.Buffers.{Buffers}
 use Rattle.store.specs.Calls.{Store, openOf, cachedLenOf, memoryBytesOf, readOf}
 use Rattle.heads.specs.Calls.{headScoresOf, headSumsOf}
 use Rattle.undo.specs.Sequence.{Call, run, accepted}

@@ -4,7 +4,7 @@ use Prim.Native.Nat.{_≤_}
 use lib.ListN.{length}
 use lib.Seq.{length-take-le}
 use borrow.Author.Needs.{needs}
-use Rattle.texts.proofs.LaidLaws.{laid-in}
+use Rattle.printing.proofs.LaidLaws.{laid-in}
 use Rattle.replay.specs.Transcript.{transcript}
 use Rattle.kvcalls.proofs.start.Statement.{statement}
 use Rattle.kvcalls.proofs.start.Tie as tie

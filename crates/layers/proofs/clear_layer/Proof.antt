@@ -4,7 +4,7 @@ use mathlib.Core.Bool.{true}
 use borrow.Author.Needs.{needs}
 use lib.ListN.{length}
 use Rattle.replies.proofs.Flags.{passed, failed}
-use Rattle.rows.proofs.FitLaws.{tried-done}
+use Rattle.replies.proofs.Tried.{tried-done}
 use Rattle.layers.specs.Calls.{layerFits, clearLayerOf}
 use Rattle.layers.proofs.FitLaws.{fits-facts}
 use Rattle.layers.proofs.clear_layer.Statement.{statement}

@@ -1,6 +1,6 @@
 -- Both sides are read from the file and lent to the append.
 use borrow.Author.Needs.{needs}
-use Rattle.rows.specs.Calls.{buffers}
+use Rattle.shapes.specs.Buffers.{buffers}
 use Rattle.store.specs.Calls.{store}
 use Rattle.replay.proofs.StepLaws.{sides-lent}
 use Rattle.replay.proofs.append_from.Statement.{statement}

@@ -3,9 +3,9 @@ use mathlib.Core.Path.{ap, _∙_}
 use native.Mathlib.Omega.{arith}
 use borrow.Author.Needs.{needs}
 use borrow.Author.Tests.{le-leb, lt-leb}
-use Rattle.rows.specs.Calls.{buffers}
-use Rattle.texts.specs.Text.{Laid, badText}
-use Rattle.texts.proofs.LaidLaws.{laid-first}
+use Rattle.shapes.specs.Buffers.{buffers}
+use Rattle.printing.specs.Text.{Laid, badText}
+use Rattle.printing.proofs.LaidLaws.{laid-first}
 use Rattle.replay.specs.Step.{walk}
 use Rattle.replay.specs.Transcript.{start, playOf}
 use Rattle.replay.proofs.play_in.Statement.{statement}

@@ -1,7 +1,7 @@
 -- Each arm knows which record it has, and does what the definition says of it.
 use mathlib.Core.Path.{sym, ap, _∙_}
 use Rattle.replies.specs.Outcome.{Outcome}
-use Rattle.rows.specs.Calls.{buffers}
+use Rattle.shapes.specs.Buffers.{buffers}
 use Rattle.store.specs.declared.Record.{Record}
 use Rattle.store.specs.Calls.{store}
 use Rattle.callfile.proofs.FormatLaws.{append-in-file}

@@ -16,7 +16,7 @@ use denote.Builtin.{u8, u32}
 use denote.Laws.{Is}
 use denote.Slice.{Room}
 use denote.Struct.Laws as LL
-use Rattle.rows.specs.Calls.{Buffers, buffers}
+use Rattle.shapes.specs.Buffers.{Buffers, buffers}
 use Rattle.store.specs.Record.{newRecord}
 use Rattle.store.specs.Calls.{noShape}
 use Rattle.replay.specs.declared.Played.{Played}

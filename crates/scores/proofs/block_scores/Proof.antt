@@ -1,7 +1,7 @@
 -- The test decides: where the block does not fit the output is as it was, and where it fits it is the block's.
 use Rattle.replies.proofs.Flags.{both, passed, failed}
-use Rattle.rows.proofs.FitLaws.{tried-done}
-use Rattle.blocks.specs.Block.{blockScoresOf}
+use Rattle.replies.proofs.Tried.{tried-done}
+use Rattle.attention.specs.Block.{blockScoresOf}
 use borrow.Author.Needs.{needs}
 use Rattle.scores.proofs.block_scores.Statement.{statement}
 use Rattle.scores.proofs.block_scores.Tie as tie

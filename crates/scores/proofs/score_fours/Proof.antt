@@ -8,9 +8,9 @@ use lib.ListN.{length, drop}
 use Rattle.lists.specs.Chunks.{tab}
 use Rattle.lists.proofs.Tab.{tab-lent}
 use Rattle.rows.proofs.FitLaws.{fits-facts}
-use Rattle.blocks.specs.Order.{scoresOf}
-use Rattle.blocks.specs.Block.{blockScores}
-use Rattle.blocks.proofs.PartLaws.{scoreAt, part-inside, part-rows, part-scores}
+use Rattle.attention.specs.Order.{scoresOf}
+use Rattle.attention.specs.Block.{blockScores}
+use Rattle.attention.proofs.PartLaws.{scoreAt, part-inside, part-rows, part-scores}
 use Rattle.scores.proofs.score_fours.Statement.{statement}
 use Rattle.scores.proofs.score_fours.Tie as tie
 

@@ -6,9 +6,9 @@ use borrow.Author.Needs.{needs}
 use lib.ListN.{length}
 use Rattle.lists.proofs.Tab.{tab-lent, tab-done}
 use Rattle.rows.proofs.FitLaws.{fits-facts}
-use Rattle.blocks.specs.Order.{scoresOf}
-use Rattle.blocks.specs.Block.{blockScores}
-use Rattle.blocks.proofs.PartLaws.{scoreAt, part-inside, part-rows, part-scores}
+use Rattle.attention.specs.Order.{scoresOf}
+use Rattle.attention.specs.Block.{blockScores}
+use Rattle.attention.proofs.PartLaws.{scoreAt, part-inside, part-rows, part-scores}
 use Rattle.scores.proofs.score_rows.Statement.{statement}
 use Rattle.scores.proofs.score_rows.Tie as tie
 

@@ -1,7 +1,7 @@
 -- Past the store's own refusals the call goes as that of the rows does.
 use mathlib.Core.Path.{sym, _∙_}
 use Rattle.replies.proofs.Refusals.{still-refused, still-passed, refused-first}
-use Rattle.rows.specs.Calls.{buffers}
+use Rattle.shapes.specs.Buffers.{buffers}
 use Rattle.store.specs.Calls.{appendOf}
 use Rattle.store.proofs.CallLaws.{append-refused, append-done, append-grows}
 use borrow.Author.Needs.{needs}

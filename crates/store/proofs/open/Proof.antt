@@ -1,7 +1,7 @@
 -- The room is tested, then both buffers are zeroed.
 use mathlib.Core.Path.{sym, _∙_}
 use Rattle.replies.proofs.Refusals.{still-refused, still-passed, outcome-refused}
-use Rattle.rows.specs.Calls.{buffers}
+use Rattle.shapes.specs.Buffers.{buffers}
 use Rattle.store.specs.Calls.{openOf}
 use Rattle.store.proofs.CallLaws.{open-done}
 use borrow.Author.Needs.{needs}

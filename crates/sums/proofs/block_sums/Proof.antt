@@ -1,7 +1,7 @@
 -- The test decides: where the block does not fit the output is as it was, and where it fits it is the block's.
 use Rattle.replies.proofs.Flags.{both, passed, failed}
-use Rattle.rows.proofs.FitLaws.{tried-done}
-use Rattle.blocks.specs.Block.{blockSumsOf}
+use Rattle.replies.proofs.Tried.{tried-done}
+use Rattle.attention.specs.Block.{blockSumsOf}
 use borrow.Author.Needs.{needs}
 use Rattle.sums.proofs.block_sums.Statement.{statement}
 use Rattle.sums.proofs.block_sums.Tie as tie

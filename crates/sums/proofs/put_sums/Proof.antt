@@ -9,7 +9,7 @@ use lib.Ieee.{nan}
 use Rattle.lists.specs.Chunks.{tab}
 use Rattle.lists.proofs.Tab.{tab-set, tab-done}
 use Rattle.numbers.specs.Word.{word}
-use Rattle.blocks.proofs.OrderLaws.{words-tab}
+use Rattle.attention.proofs.OrderLaws.{words-tab}
 use Rattle.sums.proofs.put_sums.Statement.{statement}
 use Rattle.sums.proofs.put_sums.Tie as tie
 

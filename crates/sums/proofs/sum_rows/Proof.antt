@@ -10,8 +10,8 @@ use lib.Ieee.{Float}
 use Rattle.lists.proofs.Part.{part-replicate}
 use Rattle.numbers.specs.Word.{float, word}
 use Rattle.rows.proofs.FitLaws.{fits-facts}
-use Rattle.blocks.specs.Block.{blockSums}
-use Rattle.blocks.proofs.OrderLaws.{sums-words}
+use Rattle.attention.specs.Block.{blockSums}
+use Rattle.attention.proofs.OrderLaws.{sums-words}
 use Rattle.sums.proofs.sum_rows.Statement.{statement}
 use Rattle.sums.proofs.sum_rows.Tie as tie
 

@@ -7,7 +7,7 @@ use borrow.Author.Needs.{needs}
 use borrow.Author.Tests.{eq-eqb, ne-eqb}
 use lib.ListN.{length}
 use Rattle.replies.proofs.Flags.{both-true, passed, failed}
-use Rattle.rows.proofs.FitLaws.{tried-done}
+use Rattle.replies.proofs.Tried.{tried-done}
 use Rattle.shapes.specs.Shape.{width}
 use Rattle.layers.specs.Calls.{layerFits, numbersFit, putLayerOf}
 use Rattle.layers.proofs.SizeLaws.{numbers-few}

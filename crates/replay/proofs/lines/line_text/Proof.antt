@@ -1,6 +1,6 @@
 -- Each arm knows which line it has, and lays that line's text; at the end there is none.
 use borrow.Author.Needs.{needs}
-use Rattle.texts.proofs.LaidLaws.{laid-none}
+use Rattle.printing.proofs.LaidLaws.{laid-none}
 use Rattle.replay.proofs.lines.line_text.Statement.{statement}
 use Rattle.replay.proofs.lines.line_text.Tie as tie
 

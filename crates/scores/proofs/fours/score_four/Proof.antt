@@ -1,7 +1,7 @@
 -- Each row is a quarter of the cells and of the scale words, and its format's test is the definition's.
 use native.Mathlib.Omega.{arith}
 use borrow.Author.Needs.{needs}
-use Rattle.blocks.proofs.FourLaws.{quarter-f32, quarter-int4, f32-score, int4-score, four-scores}
+use Rattle.attention.proofs.FourLaws.{quarter-f32, quarter-int4, f32-score, int4-score, four-scores}
 use Rattle.scores.proofs.fours.score_four.Statement.{statement}
 use Rattle.scores.proofs.fours.score_four.Tie as tie
 

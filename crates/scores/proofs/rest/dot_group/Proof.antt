@@ -7,7 +7,7 @@ use borrow.Author.Needs.{needs}
 use Rattle.lists.specs.Chunks.{turns}
 use Rattle.lists.proofs.Turns.{turns-next}
 use Rattle.numbers.specs.Word.{float}
-use Rattle.blocks.specs.Order.{addByte, groupDot}
+use Rattle.attention.specs.Order.{addByte, groupDot}
 use Rattle.scores.proofs.rest.dot_group.Statement.{statement}
 use Rattle.scores.proofs.rest.dot_group.Tie as tie
 

@@ -7,8 +7,8 @@ use lib.Ieee.{nan, binary32, mul}
 use Rattle.lists.specs.Chunks.{turns}
 use Rattle.numbers.specs.Word.{float}
 use Rattle.rows.specs.Row.{f32At}
-use Rattle.blocks.specs.Order.{summed, f32Dot}
-use Rattle.blocks.proofs.OrderLaws.{summed-next}
+use Rattle.attention.specs.Order.{summed, f32Dot}
+use Rattle.attention.proofs.OrderLaws.{summed-next}
 use borrow.Author.Needs.{needs}
 use Rattle.scores.proofs.rest.score_f32.Statement.{statement}
 use Rattle.scores.proofs.rest.score_f32.Tie as tie

@@ -6,8 +6,8 @@ use native.Mathlib.Omega.{arith}
 use borrow.Author.Needs.{needs}
 use lib.ListN.{length}
 use Rattle.lists.specs.Chunks.{turns}
-use Rattle.blocks.specs.Order.{summed}
-use Rattle.blocks.proofs.OrderLaws.{summed-next}
+use Rattle.attention.specs.Order.{summed}
+use Rattle.attention.proofs.OrderLaws.{summed-next}
 use Rattle.scores.proofs.GroupLaws.{groupTerm, groups-all}
 use Rattle.scores.proofs.rest.score_int4.Statement.{statement}
 use Rattle.scores.proofs.rest.score_int4.Tie as tie

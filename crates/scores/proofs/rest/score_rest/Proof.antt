@@ -9,10 +9,10 @@ use Rattle.lists.specs.Chunks.{tab}
 use Rattle.lists.proofs.Tab.{tab-set, tab-done}
 use Rattle.rows.proofs.FitLaws.{fits-facts}
 use Rattle.lists.proofs.Part.{lent-count}
-use Rattle.blocks.specs.Order.{scoresOf}
-use Rattle.blocks.specs.Block.{blockScores}
-use Rattle.blocks.proofs.BlockLaws.{row-inside, row-lent, one-row}
-use Rattle.blocks.proofs.PartLaws.{scoreAt}
+use Rattle.attention.specs.Order.{scoresOf}
+use Rattle.attention.specs.Block.{blockScores}
+use Rattle.attention.proofs.BlockLaws.{row-inside, row-lent, one-row}
+use Rattle.attention.proofs.PartLaws.{scoreAt}
 use Rattle.scores.proofs.rest.score_rest.Statement.{statement}
 use Rattle.scores.proofs.rest.score_rest.Tie as tie
 

@@ -1,7 +1,7 @@
 -- The format's test is the definition's, and each side knows the lengths that its format has.
 use borrow.Author.Tests.{eq-eqb, ne-eqb}
-use Rattle.blocks.specs.Order.{rowDot}
-use Rattle.blocks.proofs.BlockLaws.{f32-row, int4-row}
+use Rattle.attention.specs.Order.{rowDot}
+use Rattle.attention.proofs.BlockLaws.{f32-row, int4-row}
 use Rattle.scores.proofs.rest.score_row.Statement.{statement}
 use Rattle.scores.proofs.rest.score_row.Tie as tie
 

@@ -6,7 +6,7 @@ use borrow.Author.Needs.{needs}
 use Rattle.lists.specs.Chunks.{turns}
 use Rattle.lists.proofs.Turns.{turns-more}
 use Rattle.numbers.specs.Word.{float}
-use Rattle.blocks.specs.Order.{addByte, groupDot}
+use Rattle.attention.specs.Order.{addByte, groupDot}
 use Rattle.scores.proofs.words.four_groups.Statement.{statement}
 use Rattle.scores.proofs.words.four_groups.Tie as tie
 

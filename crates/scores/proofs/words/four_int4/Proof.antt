@@ -5,7 +5,7 @@ use native.Mathlib.Omega.{arith}
 use borrow.Author.Needs.{needs}
 use lib.ListN.{length}
 use Rattle.lists.specs.Chunks.{turns}
-use Rattle.blocks.specs.Order.{summed}
+use Rattle.attention.specs.Order.{summed}
 use Rattle.scores.proofs.GroupLaws.{groupTerm, group-turn, groups-all}
 use Rattle.scores.proofs.words.four_int4.Statement.{statement}
 use Rattle.scores.proofs.words.four_int4.Tie as tie

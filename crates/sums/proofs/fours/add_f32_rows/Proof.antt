@@ -6,10 +6,10 @@ use native.Mathlib.Omega.{arith}
 use borrow.Author.Needs.{needs}
 use lib.ListN.{length}
 use Rattle.lists.specs.Chunks.{turns, part}
-use Rattle.rows.specs.Calls.{buffers}
+use Rattle.shapes.specs.Buffers.{buffers}
 use Rattle.rows.proofs.FitLaws.{fits-facts}
-use Rattle.blocks.specs.Order.{added}
-use Rattle.blocks.specs.Block.{blockTerm}
+use Rattle.attention.specs.Order.{added}
+use Rattle.attention.specs.Block.{blockTerm}
 use Rattle.sums.proofs.NanLaws.{Plain}
 use Rattle.sums.proofs.SumLaws.{f32-inside, f32-count, f32-some, f32-after}
 use Rattle.sums.proofs.fours.add_f32_rows.Statement.{statement}

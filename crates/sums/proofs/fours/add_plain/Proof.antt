@@ -8,8 +8,8 @@ use lib.ListN.{length, drop}
 use Rattle.lists.specs.Chunks.{tab, turns}
 use Rattle.lists.proofs.Some.{sum-most}
 use Rattle.lists.proofs.Turns.{turns-next}
-use Rattle.blocks.specs.Order.{f32Term}
-use Rattle.blocks.proofs.OrderLaws.{fourTerms, four-next, four-all}
+use Rattle.attention.specs.Order.{f32Term}
+use Rattle.attention.proofs.OrderLaws.{fourTerms, four-next, four-all}
 use Rattle.sums.proofs.NanLaws.{one-at-most, fourNans, four-at-most, term-fits}
 use Rattle.sums.proofs.fours.add_plain.Statement.{statement}
 use Rattle.sums.proofs.fours.add_plain.Tie as tie

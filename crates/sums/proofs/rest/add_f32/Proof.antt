@@ -4,8 +4,8 @@ use Prim.Native.Nat.{_-_, _≤_}
 use native.Mathlib.Omega.{arith}
 use lib.ListN.{length}
 use Rattle.lists.specs.Chunks.{tab}
-use Rattle.blocks.specs.Order.{f32Term}
-use Rattle.blocks.proofs.OrderLaws.{addedTo, added-next, added-all}
+use Rattle.attention.specs.Order.{f32Term}
+use Rattle.attention.proofs.OrderLaws.{addedTo, added-next, added-all}
 use borrow.Author.Needs.{needs}
 use Rattle.sums.proofs.rest.add_f32.Statement.{statement}
 use Rattle.sums.proofs.rest.add_f32.Tie as tie

@@ -6,8 +6,8 @@ use native.Mathlib.Omega.{arith}
 use borrow.Author.Needs.{needs}
 use lib.ListN.{length}
 use Rattle.lists.specs.Chunks.{tab}
-use Rattle.blocks.specs.Order.{int4Term}
-use Rattle.blocks.proofs.OrderLaws.{addedTo, added-lent, added-all}
+use Rattle.attention.specs.Order.{int4Term}
+use Rattle.attention.proofs.OrderLaws.{addedTo, added-lent, added-all}
 use Rattle.sums.proofs.RowLaws.{group-term}
 use Rattle.sums.proofs.rest.add_int4.Statement.{statement}
 use Rattle.sums.proofs.rest.add_int4.Tie as tie

@@ -6,12 +6,12 @@ use borrow.Author.Needs.{needs}
 use lib.ListN.{length}
 use Rattle.lists.specs.Chunks.{turns}
 use Rattle.lists.proofs.Turns.{turns-next}
-use Rattle.rows.specs.Calls.{buffers}
+use Rattle.shapes.specs.Buffers.{buffers}
 use Rattle.rows.proofs.FitLaws.{fits-facts}
 use Rattle.lists.proofs.Part.{lent-count}
-use Rattle.blocks.specs.Order.{added}
-use Rattle.blocks.specs.Block.{blockTerm}
-use Rattle.blocks.proofs.BlockLaws.{row-inside, row-lent, one-row}
+use Rattle.attention.specs.Order.{added}
+use Rattle.attention.specs.Block.{blockTerm}
+use Rattle.attention.proofs.BlockLaws.{row-inside, row-lent, one-row}
 use Rattle.sums.proofs.rest.add_rest.Statement.{statement}
 use Rattle.sums.proofs.rest.add_rest.Tie as tie
 

@@ -1,8 +1,8 @@
 -- The format's test is the definition's, and each side knows the lengths that its format has.
 use borrow.Author.Needs.{needs}
 use borrow.Author.Tests.{eq-eqb, ne-eqb}
-use Rattle.blocks.specs.Order.{rowTerm, added}
-use Rattle.blocks.proofs.BlockLaws.{f32-row, int4-row}
+use Rattle.attention.specs.Order.{rowTerm, added}
+use Rattle.attention.proofs.BlockLaws.{f32-row, int4-row}
 use Rattle.sums.proofs.rest.add_row.Statement.{statement}
 use Rattle.sums.proofs.rest.add_row.Tie as tie
 

@@ -1,0 +1,22 @@
+// Blocks: the first positions of one head's block, what their scores and sums are, and which blocks have some.
+use rows::rows_fit;
+ghost use mathlib.Core.Path.{_≡_};
+ghost use Rattle.attention.specs.Order.{hasScores};
+ghost use Rattle.attention.specs.Block.{blockFits};
+
+// Whether a format has scores and sums.
+pub fn has_scores(format: u32) -> bool
+    ensures { λ r. ⌜ r ≡ hasScores format ⌝ }
+{
+    if format == 0 { true } else { format == 3 }
+}
+
+// Whether a format has scores and the lengths are those of `m` rows of `d` numbers.
+pub fn block_fits(format: u32, d: usize, m: usize, cells: usize, scales: usize) -> bool
+    ensures { λ r. ⌜ r ≡ blockFits format d m cells scales ⌝ }
+{
+    if !has_scores(format) {
+        return false;
+    }
+    rows_fit(format, d, m, cells, scales)
+}
