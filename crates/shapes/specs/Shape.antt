@@ -33,6 +33,10 @@ wordsOf s = scaleWords (s .format) (headSize s)
 abbrev pub width : Shape → ℕ
 width s = s .heads * headSize s
 
+-- the positions that so many numbers are
+abbrev pub positions : Shape → ℕ → ℕ
+positions s numbers = numbers / width s
+
 -- all elements of a buffer: b for each position, head, side and layer
 unfoldable pub total : ℕ → Shape → ℕ
 total b s = 2 * s .layers * s .heads * s .capacity * b
