@@ -9,7 +9,7 @@ use lib.Ieee.{lt, eq, add, div, mul, ofBits, toBits, ofInt}
 use Rattle.lists.specs.Chunks.{tab, joined, at, each, turns, some}
 use Rattle.numbers.specs.Word.{bf16}
 use Rattle.numbers.specs.Scale.{magnitude, larger, largestFrom, largest, scaleOf}
-use Rattle.numbers.specs.Code.{nearestWhole, held, code8, code4, less8, read4}
+use Rattle.numbers.specs.Code.{nearestWhole, clamped, code8, code4, less8, read4}
 use Rattle.groups.specs.Group.{packed, half, unpacked}
 use Rattle.replies.specs.Outcome.{_when_, lowest, outcome}
 use Rattle.replies.proofs.Refusals.{refused-before}
@@ -53,5 +53,5 @@ one-by-one (Opened n s reply ∷ es) h = ((λ b c d. open-reply s b (cellTotal s
 one-by-one (Outside n s ∷ es) h = ((λ b. outside-reply s b (cc)), one-by-one es (cc))
 
 pub examples-hold : AllHold examples
-unfolding examples answer got wanted tab joined at each turns some bf16 magnitude larger largestFrom largest scaleOf nearestWhole held code8 code4 read4 less8 packed half unpacked lt eq div mul ofBits toBits ofInt lowest outcome ofFormat cellBytes scaleWords total limits within exact little f32Cells bf16Cells int8Cells int8Scales int4Cells int4Scales rowCells rowScales put putSide putLayer written appended goodLengths openOf appendOf add summed groupDot int4Dot hasScores rowDot rowTerm scoresOf sumsOf scoresAt sumsAt headScoresOf headSumsOf
+unfolding examples answer got wanted tab joined at each turns some bf16 magnitude larger largestFrom largest scaleOf nearestWhole clamped code8 code4 read4 less8 packed half unpacked lt eq div mul ofBits toBits ofInt lowest outcome ofFormat cellBytes scaleWords total limits within exact little f32Cells bf16Cells int8Cells int8Scales int4Cells int4Scales rowCells rowScales put putSide putLayer written appended goodLengths openOf appendOf add summed groupDot int4Dot hasScores rowDot rowTerm scoresOf sumsOf scoresAt sumsAt headScoresOf headSumsOf
 examples-hold = one-by-one examples refl

@@ -16,11 +16,11 @@ use mir.Val.{ofZ}
 use Rattle.numbers.specs.Word.{float, word}
 use Rattle.numbers.specs.Kind.{InfWord, BlankWord, AboveZero, BelowZero, All, Any}
 use Rattle.numbers.specs.Scale.{largest, scaleOf}
-use Rattle.numbers.specs.Code.{held, above, code8, code4, read8, read4, less8}
-use Rattle.numbers.proofs.CodeLaws.{code8-held, code4-held}
-use Rattle.numbers.proofs.KindLaws.{Signed, blank-word, above-word, below-word, blank-held, infinite-held, zero-held, infinite-read8, infinite-read4}
+use Rattle.numbers.specs.Code.{clamped, above, code8, code4, read8, read4, less8}
+use Rattle.numbers.proofs.CodeLaws.{code8-clamped, code4-clamped}
+use Rattle.numbers.proofs.KindLaws.{Signed, blank-word, above-word, below-word, blank-clamped, infinite-clamped, zero-clamped, infinite-read8, infinite-read4}
 use Rattle.numbers.proofs.RunLaws.{blank-scale, infinite-scale, scale-none, scale-smallest}
-use Rattle.numbers.proofs.ValueLaws.{held-0, held-1}
+use Rattle.numbers.proofs.ValueLaws.{clamped-0, clamped-1}
 use Rattle.groups.specs.Group.{packed, unpacked}
 use Rattle.groups.proofs.GroupLaws.{packed-alike, unpacked-alike}
 
@@ -29,9 +29,9 @@ abbrev pub Codes : ℕ → Float → ℕ → ℕ → Type 0
 Codes w scale int8 int4 = (code8 w scale ≡ int8) × (code4 w scale ≡ int4)
 
 -- one fact over the clamp range gives both
-both : (w : ℕ) (scale : Float) (z : ℕ → ℕ → ℤ) → ((low high : ℕ) → 1 ≤ low → 1 ≤ high → held low high (div binary32 (float w) scale) ≡ z low high)
+both : (w : ℕ) (scale : Float) (z : ℕ → ℕ → ℤ) → ((low high : ℕ) → 1 ≤ low → 1 ≤ high → clamped low high (div binary32 (float w) scale) ≡ z low high)
     → Codes w scale (ofZ w8 (z 127 127)) (above 8 (z 8 7))
-both w scale z h = (code8-held w scale (h 127 127 (omega arith) (omega arith)), code4-held w scale (h 8 7 (omega arith) (omega arith)))
+both w scale z h = (code8-clamped w scale (h 127 127 (omega arith) (omega arith)), code4-clamped w scale (h 8 7 (omega arith) (omega arith)))
 
 -- P3: a run of zeros of either sign and NaNs of any payload and sign, of any length, has the scale 1.0 under every divisor
 pub p3 : (divisor : ℕ) (run : List ℕ) → All BlankWord run → scaleOf divisor run ≡ float 0x3f80_0000
@@ -39,7 +39,7 @@ p3 = blank-scale
 
 -- each of them has the code of 0, under every scale
 pub p3-codes : (w : ℕ) (scale : Float) → BlankWord w → Codes w scale 0 8
-p3-codes w scale b = both w scale (λ _ _. pos 0) (λ low high _ _. blank-held low high (float w) scale (blank-word w b))
+p3-codes w scale b = both w scale (λ _ _. pos 0) (λ low high _ _. blank-clamped low high (float w) scale (blank-word w b))
 
 blank-at : (run : List ℕ) (i : ℕ) → All BlankWord run → BlankWord (getD run i 0)
 blank-at [] i b = inl refl
@@ -61,7 +61,7 @@ p4 = infinite-scale
 
 -- under an infinite scale every word has the code of 0, and that reads as a NaN
 pub p4-codes : (w : ℕ) (s : Bool) → Codes w (inf s) 0 8
-p4-codes w s = both w (inf s) (λ _ _. pos 0) (λ low high _ _. infinite-held low high (float w) s)
+p4-codes w s = both w (inf s) (λ _ _. pos 0) (λ low high _ _. infinite-clamped low high (float w) s)
 
 pub p4-reads : (s : Bool) → (read8 0 (inf s) ≡ nan) × (read4 8 (inf s) ≡ nan)
 p4-reads s = (infinite-read8 s, infinite-read4 s)
@@ -93,7 +93,7 @@ abbrev end : Bool → ℕ → ℕ → ℤ
 end negative low high = cond negative (negℤ (pos low)) (pos high)
 
 ends : (w : ℕ) (s t : Bool) → Signed s (float w) → Codes w (fin t 0 (pos 0)) (ofZ w8 (end (unlike s t) 127 127)) (above 8 (end (unlike s t) 8 7))
-ends w s t n = both w (fin t 0 (pos 0)) (end (unlike s t)) (λ low high _ _. zero-held low high (float w) s t (pos 0) n)
+ends w s t n = both w (fin t 0 (pos 0)) (end (unlike s t)) (λ low high _ _. zero-clamped low high (float w) s t (pos 0) n)
 
 pub p5-above : (w : ℕ) → AboveZero w → Codes w (float 0) 0x7f 15 × Codes w (float 0x8000_0000) 0x81 0
 unfolding ofBits
@@ -110,11 +110,11 @@ module _ (w : ℕ) (scale : Float) (q : ℕ) (e : word (div binary32 (float w) s
 
   -- below those of 0.5, of either sign, it gives 0
   pub p7-0 : q % 0x8000_0000 ≤ 0x3eff_ffff → Codes w scale 0 8
-  p7-0 h = both w scale (λ _ _. pos 0) (λ low high _ _. rw quotient at (held-0 low high q (omega arith)))
+  p7-0 h = both w scale (λ _ _. pos 0) (λ low high _ _. rw quotient at (clamped-0 low high q (omega arith)))
 
   -- from those of 0.5 on and below those of 1.5 it gives 1, and -1 with the sign
   pub p7-1 : 0x3f00_0000 ≤ q → q < 0x3fc0_0000 → Codes w scale 1 9
-  p7-1 l h = both w scale (λ _ _. pos 1) (λ low high i j. rw (quotient, lt-leb 2147483648 q (omega arith)) at (held-1 low high q i j (omega arith) (omega arith)))
+  p7-1 l h = both w scale (λ _ _. pos 1) (λ low high i j. rw (quotient, lt-leb 2147483648 q (omega arith)) at (clamped-1 low high q i j (omega arith) (omega arith)))
 
   pub p7-minus-1 : 0xbf00_0000 ≤ q → q < 0xbfc0_0000 → Codes w scale 0xff 7
-  p7-minus-1 l h = both w scale (λ _ _. negsuc 0) (λ low high i j. rw (quotient, le-leb 2147483648 q (omega arith)) at (held-1 low high q i j (omega arith) (omega arith)))
+  p7-minus-1 l h = both w scale (λ _ _. negsuc 0) (λ low high i j. rw (quotient, le-leb 2147483648 q (omega arith)) at (clamped-1 low high q i j (omega arith) (omega arith)))

@@ -1,4 +1,4 @@
--- A held number lies in its clamp range, so an INT8 code is a byte other than 80 hex, and an INT4 code is a nibble.
+-- A clamped number lies in its clamp range, so an INT8 code is a byte other than 80 hex, and an INT4 code is a nibble.
 use mathlib.Core.Path.{_≡_, ap}
 use mathlib.Core.Logic.{_≢_}
 use Prim.Native.Nat.{ℕ, zero, suc, _+_, _%_, _≤_, _<_, zero-le}
@@ -10,7 +10,7 @@ use lib.Ieee.{Float, nan, inf, fin, binary32, div}
 use mir.Syntax.{w8}
 use mir.Val.{ofZ}
 use Rattle.numbers.specs.Word.{float}
-use Rattle.numbers.specs.Code.{nearestWhole, held, above, code8, code4}
+use Rattle.numbers.specs.Code.{nearestWhole, clamped, above, code8, code4}
 
 -- -low .. high
 abbrev pub Within : ℕ → ℕ → ℤ → Type 0
@@ -21,20 +21,20 @@ minus-within : (low high n : ℕ) → n ≤ low → Within low high (negℤ (pos
 minus-within low high zero h = zero-le
 minus-within low high (suc n) h = h
 
-pub held-within : (low high : ℕ) (x : Float) → Within low high (held low high x)
-unfolding held
-held-within low high nan = zero-le
-held-within low high (inf true) = minus-within low high low (le-refl low)
-held-within low high (inf false) = le-refl high
-held-within low high (fin true m e) = minus-within low high _ (min-le-right (nearestWhole m e) low)
-held-within low high (fin false m e) = min-le-right (nearestWhole m e) high
+pub clamped-within : (low high : ℕ) (x : Float) → Within low high (clamped low high x)
+unfolding clamped
+clamped-within low high nan = zero-le
+clamped-within low high (inf true) = minus-within low high low (le-refl low)
+clamped-within low high (inf false) = le-refl high
+clamped-within low high (fin true m e) = minus-within low high _ (min-le-right (nearestWhole m e) low)
+clamped-within low high (fin false m e) = min-le-right (nearestWhole m e) high
 
 above-within : (low high : ℕ) (z : ℤ) → Within low high z → above low z ≤ low + high
 above-within low high (pos n) h = omega arith
 above-within low high (negsuc n) h = omega arith
 
-pub held-above : (low high : ℕ) (x : Float) → above low (held low high x) ≤ low + high
-held-above low high x = above-within low high (held low high x) (held-within low high x)
+pub clamped-above : (low high : ℕ) (x : Float) → above low (clamped low high x) ≤ low + high
+clamped-above low high x = above-within low high (clamped low high x) (clamped-within low high x)
 
 -- two's complement in a byte
 byte : (z : ℤ) → Within 127 127 z → (ofZ w8 z < 256) × (ofZ w8 z ≢ 128) × (above 256 z % 256 ≡ ofZ w8 z)
@@ -42,18 +42,18 @@ byte (pos n) h = omega arith
 byte (negsuc n) h = omega arith
 
 module _ (w : ℕ) (scale : Float) where
-  -- the code of a number whose quotient is held as z
-  pub code8-held : {z : ℤ} → held 127 127 (div binary32 (float w) scale) ≡ z → code8 w scale ≡ ofZ w8 z
+  -- the code of a number whose quotient is clamped as z
+  pub code8-clamped : {z : ℤ} → clamped 127 127 (div binary32 (float w) scale) ≡ z → code8 w scale ≡ ofZ w8 z
   unfolding code8
-  code8-held h = ap (ofZ w8) h
+  code8-clamped h = ap (ofZ w8) h
 
-  pub code4-held : {z : ℤ} → held 8 7 (div binary32 (float w) scale) ≡ z → code4 w scale ≡ above 8 z
+  pub code4-clamped : {z : ℤ} → clamped 8 7 (div binary32 (float w) scale) ≡ z → code4 w scale ≡ above 8 z
   unfolding code4
-  code4-held h = ap (above 8) h
+  code4-clamped h = ap (above 8) h
 
-  code8-of : (code8 w scale < 256) × (code8 w scale ≢ 128) × (above 256 (held 127 127 (div binary32 (float w) scale)) % 256 ≡ code8 w scale)
+  code8-of : (code8 w scale < 256) × (code8 w scale ≢ 128) × (above 256 (clamped 127 127 (div binary32 (float w) scale)) % 256 ≡ code8 w scale)
   unfolding code8
-  code8-of = byte (held 127 127 (div binary32 (float w) scale)) (held-within 127 127 (div binary32 (float w) scale))
+  code8-of = byte (clamped 127 127 (div binary32 (float w) scale)) (clamped-within 127 127 (div binary32 (float w) scale))
 
   pub code8-byte : code8 w scale < 256
   code8-byte = code8-of .0
@@ -61,9 +61,9 @@ module _ (w : ℕ) (scale : Float) where
   pub code8-never-80 : code8 w scale ≢ 128
   code8-never-80 = code8-of .1
 
-  pub code8-wraps : above 256 (held 127 127 (div binary32 (float w) scale)) % 256 ≡ code8 w scale
+  pub code8-wraps : above 256 (clamped 127 127 (div binary32 (float w) scale)) % 256 ≡ code8 w scale
   code8-wraps = code8-of .2
 
   pub code4-nibble : code4 w scale < 16
   unfolding code4
-  code4-nibble = omega (arith, held-above 8 7 (div binary32 (float w) scale))
+  code4-nibble = omega (arith, clamped-above 8 7 (div binary32 (float w) scale))

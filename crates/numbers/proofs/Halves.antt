@@ -15,7 +15,7 @@ use lib.Ieee.Fits.{down-pos}
 use lib.Ieee.Nearest.{closest}
 use Rattle.lists.specs.Chunks.{tab}
 use Rattle.numbers.specs.Word.{float, whole}
-use Rattle.numbers.specs.Code.{nearestWhole, held}
+use Rattle.numbers.specs.Code.{nearestWhole, clamped}
 use Rattle.numbers.proofs.Patterns.{signed, bare, with-sign, up-to-infinity}
 use Rattle.numbers.proofs.Reading.{at-each}
 use Rattle.numbers.proofs.Rounding.{Near, nearest-is, whole-is, below-whole, from-whole, round-sum, from-2^23, up-to-128, near}
@@ -88,7 +88,7 @@ no-more (finite m e h) t =
     let d : (2 * (m * up e) ≡ 2 * (n * down e) + down e) → ⊥ = eqb-false _ _ (sym (halves m e h) ∙ t) in
     nearest-is (m * up e) (down e) n (down-pos e) (k .over) (omega (arith, k .under))
 
--- a magnitude held up to a whole number before the rounding is held after it
+-- a magnitude clamped to a whole number before the rounding is clamped after it
 module _ (most : ℕ) (h : most ≤ 128) where
   is-most : (n : ℕ) (d : ℤ) → n * up d ≡ most * down d → Nearest (fin false n d) (0 + most)
   unfolding nearestWhole
@@ -105,7 +105,7 @@ module _ (most : ℕ) (h : most ≤ 128) where
       rw (from-whole (m * up e) (down e) most (down-pos e) l) (is-most n d v)
 
   pub limited : (x y : Float) → T (plain x) → HasValue y false most 1 → Nearest (cond (lt x y) x y) (counts most x)
-  unfolding lt held
+  unfolding lt clamped
   limited nan y t v = absurd t
   limited (inf true) y t v = absurd t
   limited (inf false) nan t v = absurd v
@@ -126,10 +126,10 @@ plain-signed nan t = t
 plain-signed (inf s) t = tt
 plain-signed (fin s m e) t = tt
 
--- the magnitude of a pattern without a sign, held up to a whole number
-pub clamped : (b most : ℕ) → b ≤ 2139095040 → most ≤ 128 → let y = whole (pos most) in Nearest (cond (lt (float b) y) (float b) y) (counts most (float b))
+-- the magnitude of a pattern without a sign, clamped to a whole number
+pub clamped-before : (b most : ℕ) → b ≤ 2139095040 → most ≤ 128 → let y = whole (pos most) in Nearest (cond (lt (float b) y) (float b) y) (counts most (float b))
 unfolding ofInt
-clamped b most l h =
+clamped-before b most l h =
     let n : T (not (isNan (float b))) = rw (nanBits-is binary32 b) at (up-to-infinity b (omega arith)) in
     let s : float b ≡ signed false (bare b) = with-sign b ∙ ap (λ (s : Bool). signed s (bare b)) (lt-leb 2147483648 b (omega arith)) in
     limited most h (float b) (whole (pos most)) (rw s (plain-signed (bare b) (rw s at n))) (round-whole binary32 false most (omega arith))

@@ -14,9 +14,9 @@ use lib.Ieee.Exact.{HasValue, round-exact}
 use lib.Ieee.Fits.{up-pos, down-pos}
 use lib.Pow.{pow-pos}
 use Rattle.numbers.specs.Word.{float, word}
-use Rattle.numbers.specs.Code.{held, read8, less8, read4}
+use Rattle.numbers.specs.Code.{clamped, read8, less8, read4}
 use Rattle.numbers.specs.Kind.{ZeroWord, InfWord, BlankWord, AboveZero, BelowZero}
-use Rattle.numbers.proofs.ValueLaws.{held-value}
+use Rattle.numbers.proofs.ValueLaws.{clamped-value}
 use Rattle.numbers.proofs.Patterns.{signed, bare, with-sign, without-sign, above-infinity, up-to-infinity}
 
 -- a zero or a NaN
@@ -76,37 +76,37 @@ round-zero : (s : Bool) (c : ℕ) → 0 < c → HasValue (round binary32 s 0 c) 
 round-zero s c h = round-exact binary32 s 0 c 0 0 h (pow-pos 24) (pow-pos 277) (sym (zero-mul c))
 
 module _ (low high : ℕ) where
-  held-zero : (x : Float) (s : Bool) (c : ℕ) → 0 < c → HasValue x s 0 c → held low high x ≡ pos 0
-  held-zero x true c p v = held-value 0 0 c p (omega arith) (omega arith) low high x true zero-le zero-le v
-  held-zero x false c p v = held-value 0 0 c p (omega arith) (omega arith) low high x false zero-le zero-le v
+  clamped-zero : (x : Float) (s : Bool) (c : ℕ) → 0 < c → HasValue x s 0 c → clamped low high x ≡ pos 0
+  clamped-zero x true c p v = clamped-value 0 0 c p (omega arith) (omega arith) low high x true zero-le zero-le v
+  clamped-zero x false c p v = clamped-value 0 0 c p (omega arith) (omega arith) low high x false zero-le zero-le v
 
   -- anything, under an infinite scale
-  pub infinite-held : (x : Float) (s : Bool) → held low high (div binary32 x (inf s)) ≡ pos 0
-  unfolding held div
-  infinite-held nan s = refl
-  infinite-held (inf t) s = refl
-  infinite-held (fin t m e) s = held-zero (fin (unlike t s) 0 (pos 0)) (unlike t s) 1 (omega arith) (refl, refl)
+  pub infinite-clamped : (x : Float) (s : Bool) → clamped low high (div binary32 x (inf s)) ≡ pos 0
+  unfolding clamped div
+  infinite-clamped nan s = refl
+  infinite-clamped (inf t) s = refl
+  infinite-clamped (fin t m e) s = clamped-zero (fin (unlike t s) 0 (pos 0)) (unlike t s) 1 (omega arith) (refl, refl)
 
   -- a zero or a NaN, under any scale
-  pub blank-held : (x scale : Float) → Blank x → held low high (div binary32 x scale) ≡ pos 0
-  unfolding held div
-  blank-held nan scale b = refl
-  blank-held (inf s) scale b = absurd b
-  blank-held (fin s m e) nan b = refl
-  blank-held (fin s m e) (inf t) b = infinite-held (fin s m e) t
-  blank-held (fin s m e) (fin t zero d) b = rw b
-  blank-held (fin s m e) (fin t (suc n) d) b =
+  pub blank-clamped : (x scale : Float) → Blank x → clamped low high (div binary32 x scale) ≡ pos 0
+  unfolding clamped div
+  blank-clamped nan scale b = refl
+  blank-clamped (inf s) scale b = absurd b
+  blank-clamped (fin s m e) nan b = refl
+  blank-clamped (fin s m e) (inf t) b = infinite-clamped (fin s m e) t
+  blank-clamped (fin s m e) (fin t zero d) b = rw b
+  blank-clamped (fin s m e) (fin t (suc n) d) b =
       let c = suc n * up d * down e in
       let p : 0 < c = mul-pos (mul-pos (omega arith) (up-pos d)) (down-pos e) in
-      rw (eqb·suc-zero n, b, zero-mul (up e), zero-mul (down d)) (held-zero (round binary32 (unlike s t) 0 c) (unlike s t) c p (round-zero (unlike s t) c p))
+      rw (eqb·suc-zero n, b, zero-mul (up e), zero-mul (down d)) (clamped-zero (round binary32 (unlike s t) 0 c) (unlike s t) c p (round-zero (unlike s t) c p))
 
   -- a number other than 0, under a scale of 0
-  pub zero-held : (x : Float) (s t : Bool) (e : ℤ) → Signed s x → held low high (div binary32 x (fin t 0 e)) ≡ cond (unlike s t) (negℤ (pos low)) (pos high)
-  unfolding held div
-  zero-held nan s t e n = absurd n
-  zero-held (inf r) s t e n = rw n
-  zero-held (fin r zero d) s t e n = absurd (lt-irrefl 0 (n .1))
-  zero-held (fin r (suc m) d) s t e n = rw (eqb·suc-zero m, n .0)
+  pub zero-clamped : (x : Float) (s t : Bool) (e : ℤ) → Signed s x → clamped low high (div binary32 x (fin t 0 e)) ≡ cond (unlike s t) (negℤ (pos low)) (pos high)
+  unfolding clamped div
+  zero-clamped nan s t e n = absurd n
+  zero-clamped (inf r) s t e n = rw n
+  zero-clamped (fin r zero d) s t e n = absurd (lt-irrefl 0 (n .1))
+  zero-clamped (fin r (suc m) d) s t e n = rw (eqb·suc-zero m, n .0)
 
 -- the code of 0, under an infinite scale, reads as a NaN
 pub infinite-read8 : (s : Bool) → read8 0 (inf s) ≡ nan

@@ -1,4 +1,4 @@
--- A word without its sign stands for the same magnitude, so the sign and the held magnitude give the held number. A NaN gives what 0.0 gives.
+-- A word without its sign stands for the same magnitude, so the sign and the clamped magnitude give the clamped number. A NaN gives what 0.0 gives.
 use mathlib.Core.Path.{_≡_, refl}
 use Prim.Native.Nat.{ℕ, zero, suc, _+_, _-_, _%_, _≤_, min}
 use native.Mathlib.Nat.{zero-min, zero-add}
@@ -11,39 +11,39 @@ use lib.Ieee.Bits.{ofBits-fits}
 use lib.Ieee.Fits.{cond-fits}
 use borrow.Author.Tests.{le-leb, lt-leb, ltb-true, ltb-false}
 use Rattle.numbers.specs.Word.{float}
-use Rattle.numbers.specs.Code.{nearestWhole, held, above}
-use Rattle.numbers.proofs.CodeLaws.{held-above}
+use Rattle.numbers.specs.Code.{nearestWhole, clamped, above}
+use Rattle.numbers.proofs.CodeLaws.{clamped-above}
 use Rattle.numbers.proofs.Patterns.{signed, bare, with-sign, without-sign}
 
--- what a magnitude counts when it is held up to a whole number
+-- what a magnitude counts when it is clamped up to a whole number
 abbrev pub counts : ℕ → Float → ℕ
-counts most x = above 0 (held 0 most x)
+counts most x = above 0 (clamped 0 most x)
 
 pub counts-up-to : (most : ℕ) (x : Float) → counts most x ≤ most
-counts-up-to most x = omega (arith, held-above 0 most x)
+counts-up-to most x = omega (arith, clamped-above 0 most x)
 
 above-neg : (b n : ℕ) → above b (negℤ (pos n)) ≡ b - n
 above-neg b zero = omega arith
 above-neg b (suc n) = refl
 
 module _ (low high base : ℕ) where
-  held-signed : (s : Bool) (v : Float) → let n = counts (cond s low high) (signed false v) in above base (held low high (signed s v)) ≡ cond s (base - n) (base + n)
-  unfolding held
-  held-signed true nan = omega arith
-  held-signed false nan = omega arith
-  held-signed true (inf t) = rw zero-add (above-neg base low)
-  held-signed false (inf t) = rw zero-add
-  held-signed true (fin t m e) = rw zero-add (above-neg base (min (nearestWhole m e) low))
-  held-signed false (fin t m e) = rw zero-add
+  clamped-signed : (s : Bool) (v : Float) → let n = counts (cond s low high) (signed false v) in above base (clamped low high (signed s v)) ≡ cond s (base - n) (base + n)
+  unfolding clamped
+  clamped-signed true nan = omega arith
+  clamped-signed false nan = omega arith
+  clamped-signed true (inf t) = rw zero-add (above-neg base low)
+  clamped-signed false (inf t) = rw zero-add
+  clamped-signed true (fin t m e) = rw zero-add (above-neg base (min (nearestWhole m e) low))
+  clamped-signed false (fin t m e) = rw zero-add
 
-  held-at : (b : ℕ) → let s = leb 2147483648 b in let n = counts (cond s low high) (float (b % 2147483648)) in above base (held low high (float b)) ≡ cond s (base - n) (base + n)
-  held-at b = rw (with-sign b, without-sign b) (held-signed (leb 2147483648 b) (bare b))
+  clamped-at : (b : ℕ) → let s = leb 2147483648 b in let n = counts (cond s low high) (float (b % 2147483648)) in above base (clamped low high (float b)) ≡ cond s (base - n) (base + n)
+  clamped-at b = rw (with-sign b, without-sign b) (clamped-signed (leb 2147483648 b) (bare b))
 
-  pub held-up : (b : ℕ) → ltb b 2147483648 ≡ true → above base (held low high (float b)) ≡ base + counts high (float (b % 2147483648))
-  held-up b t = rw (lt-leb 2147483648 b (ltb-true b 2147483648 t)) at (held-at b)
+  pub clamped-up : (b : ℕ) → ltb b 2147483648 ≡ true → above base (clamped low high (float b)) ≡ base + counts high (float (b % 2147483648))
+  clamped-up b t = rw (lt-leb 2147483648 b (ltb-true b 2147483648 t)) at (clamped-at b)
 
-  pub held-down : (b : ℕ) → ltb b 2147483648 ≡ false → above base (held low high (float b)) ≡ base - counts low (float (b % 2147483648))
-  held-down b t = rw (le-leb 2147483648 b (ltb-false b 2147483648 t)) at (held-at b)
+  pub clamped-down : (b : ℕ) → ltb b 2147483648 ≡ false → above base (clamped low high (float b)) ≡ base - counts low (float (b % 2147483648))
+  clamped-down b t = rw (le-leb 2147483648 b (ltb-false b 2147483648 t)) at (clamped-at b)
 
 -- a quotient, and 0.0 for a NaN
 abbrev pub number : Float → Float
@@ -58,8 +58,8 @@ number-no-nan (fin s m e) = tt
 pub number-fits : (q : Float) → T (fits binary32 q) → T (fits binary32 (number q))
 number-fits q = cond-fits binary32 (isNan q) (float 0) q (ofBits-fits binary32 0)
 
-pub number-held : (low high : ℕ) (q : Float) → held low high (number q) ≡ held low high q
-unfolding held nearestWhole isNan ofBits
-number-held low high nan = rw zero-min
-number-held low high (inf s) = refl
-number-held low high (fin s m e) = refl
+pub number-clamped : (low high : ℕ) (q : Float) → clamped low high (number q) ≡ clamped low high q
+unfolding clamped nearestWhole isNan ofBits
+number-clamped low high nan = rw zero-min
+number-clamped low high (inf s) = refl
+number-clamped low high (fin s m e) = refl

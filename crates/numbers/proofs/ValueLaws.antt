@@ -1,4 +1,4 @@
--- A number from k - 1/2 on and below k + 1/2 is held as k, with its sign; by patterns, where k is 0 or 1.
+-- A number from k - 1/2 on and below k + 1/2 is clamped as k, with its sign; by patterns, where k is 0 or 1.
 use mathlib.Core.Path.{_≡_, refl, sym, _∙_}
 use mathlib.Core.Logic.{_⊎_, inl, inr}
 use Prim.Native.Nat.{ℕ, zero, suc, _+_, _-_, _*_, _/_, _%_, _^_, _≤_, _<_, zero-le}
@@ -14,7 +14,7 @@ use lib.Ieee.Exact.{HasValue, odd-sign}
 use lib.Ieee.Fits.{down-pos}
 use lib.Ieee.Nearest.{div-same}
 use Rattle.numbers.specs.Word.{float}
-use Rattle.numbers.specs.Code.{nearestWhole, held}
+use Rattle.numbers.specs.Code.{nearestWhole, clamped}
 use Rattle.numbers.proofs.Rounding.{nearest-is}
 
 module _ (k a c : ℕ) (p : 0 < c) (l : 2 * (k * c) ≤ 2 * a + c) (h : 2 * a < 2 * (k * c) + c) where
@@ -24,11 +24,11 @@ module _ (k a c : ℕ) (p : 0 < c) (l : 2 * (k * c) ≤ 2 * a + c) (h : 2 * a < 
       div-same (2 * (m * up e) + down e) (2 * down e) (2 * a + c) (2 * c) (omega (arith, down-pos e)) (omega arith) (omega arith)
       ∙ sym (nearest-is a c k p l h)
 
-  pub held-value : (low high : ℕ) (x : Float) (s : Bool) → k ≤ low → k ≤ high → HasValue x s a c → held low high x ≡ cond s (negℤ (pos k)) (pos k)
-  unfolding held
-  held-value low high nan s i j v = absurd v
-  held-value low high (inf t) s i j v = absurd v
-  held-value low high (fin t m e) s i j v = rw (v .0, nearest-value m e (v .1), min-eq-left i, min-eq-left j)
+  pub clamped-value : (low high : ℕ) (x : Float) (s : Bool) → k ≤ low → k ≤ high → HasValue x s a c → clamped low high x ≡ cond s (negℤ (pos k)) (pos k)
+  unfolding clamped
+  clamped-value low high nan s i j v = absurd v
+  clamped-value low high (inf t) s i j v = absurd v
+  clamped-value low high (fin t m e) s i j v = rw (v .0, nearest-value m e (v .1), min-eq-left i, min-eq-left j)
 
 -- the number of smallest subnormals that a finite number's fields stand for
 abbrev subnormals : ℕ → ℕ → ℕ
@@ -72,24 +72,24 @@ module _ (q j u c : ℕ) (e : c ≡ j * u) (p : 0 < u) (l : j ≤ 2 * q) (h : 2 
 
 -- 1056964608 is the pattern of 1/2, and 1069547520 that of 3/2
 module _ (low high w : ℕ) where
-  pub held-0 : w % 2147483648 < 1056964608 → held low high (float w) ≡ pos 0
-  held-0 h =
+  pub clamped-0 : w % 2147483648 < 1056964608 → clamped low high (float w) ≡ pos 0
+  clamped-0 h =
       let n = subnormals (w % 2147483648 / 8388608) (w % 8388608) in
       let b : n < 2 ^ 148 = under-half (w % 2147483648 / 8388608) (w % 8388608) (omega arith) (omega arith) in
-      held-value 0 n (2 ^ 149) (pow-pos 149) zero-le (doubled n (2 ^ 148) (2 ^ 149) refl b)
+      clamped-value 0 n (2 ^ 149) (pow-pos 149) zero-le (doubled n (2 ^ 148) (2 ^ 149) refl b)
       low high (float w) (leb 2147483648 w) zero-le zero-le (word-value w (omega arith))
       ∙ signless (leb 2147483648 w)
 
-  held-at : (x j : ℕ) → 1 ≤ low → 1 ≤ high → w % 2147483648 < 2139095040 → w % 2147483648 / 8388608 ≡ suc x → 2 ^ 149 ≡ j * 2 ^ x
-      → let q = 8388608 + w % 8388608 in j ≤ 2 * q → 2 * q < 3 * j → held low high (float w) ≡ cond (leb 2147483648 w) (negsuc 0) (pos 1)
-  held-at x j i k b e c l h =
+  clamped-at : (x j : ℕ) → 1 ≤ low → 1 ≤ high → w % 2147483648 < 2139095040 → w % 2147483648 / 8388608 ≡ suc x → 2 ^ 149 ≡ j * 2 ^ x
+      → let q = 8388608 + w % 8388608 in j ≤ 2 * q → 2 * q < 3 * j → clamped low high (float w) ≡ cond (leb 2147483648 w) (negsuc 0) (pos 1)
+  clamped-at x j i k b e c l h =
       let q = 8388608 + w % 8388608 in
-      held-value 1 (q * 2 ^ x) (2 ^ 149) (pow-pos 149) (at-least q j (2 ^ x) (2 ^ 149) c (pow-pos x) l h) (less-than q j (2 ^ x) (2 ^ 149) c (pow-pos x) l h)
+      clamped-value 1 (q * 2 ^ x) (2 ^ 149) (pow-pos 149) (at-least q j (2 ^ x) (2 ^ 149) c (pow-pos x) l h) (less-than q j (2 ^ x) (2 ^ 149) c (pow-pos x) l h)
       low high (float w) (leb 2147483648 w) i k (rw e at (word-value w b))
 
-  pub held-1 : 1 ≤ low → 1 ≤ high → 1056964608 ≤ w % 2147483648 → w % 2147483648 < 1069547520 → held low high (float w) ≡ cond (leb 2147483648 w) (negsuc 0) (pos 1)
-  held-1 i k l h = by (eq-or-lt-of-le {n = 126} {m = w % 2147483648 / 8388608} (omega arith))
+  pub clamped-1 : 1 ≤ low → 1 ≤ high → 1056964608 ≤ w % 2147483648 → w % 2147483648 < 1069547520 → clamped low high (float w) ≡ cond (leb 2147483648 w) (negsuc 0) (pos 1)
+  clamped-1 i k l h = by (eq-or-lt-of-le {n = 126} {m = w % 2147483648 / 8388608} (omega arith))
     where
-      by : (126 ≡ w % 2147483648 / 8388608) ⊎ (126 < w % 2147483648 / 8388608) → held low high (float w) ≡ cond (leb 2147483648 w) (negsuc 0) (pos 1)
-      by (inl e) = held-at 125 16777216 i k (omega arith) (sym e) refl (omega arith) (omega arith)
-      by (inr g) = held-at 126 8388608 i k (omega arith) (omega arith) refl (omega arith) (omega arith)
+      by : (126 ≡ w % 2147483648 / 8388608) ⊎ (126 < w % 2147483648 / 8388608) → clamped low high (float w) ≡ cond (leb 2147483648 w) (negsuc 0) (pos 1)
+      by (inl e) = clamped-at 125 16777216 i k (omega arith) (sym e) refl (omega arith) (omega arith)
+      by (inr g) = clamped-at 126 8388608 i k (omega arith) (omega arith) refl (omega arith) (omega arith)

@@ -11,11 +11,11 @@ use Rattle.numbers.specs.Word.{float, whole}
 unfoldable pub nearestWhole : ℕ → ℤ → ℕ
 nearestWhole m e = (2 * (m * up e) + down e) / (2 * down e)
 
--- a quotient rounded to the nearest whole number, halves away from zero, then held in -low .. high; a NaN gives 0
-unfoldable pub held : ℕ → ℕ → Float → ℤ
-held low high nan = pos 0
-held low high (inf s) = cond s (negℤ (pos low)) (pos high)
-held low high (fin s m e) = cond s (negℤ (pos (min (nearestWhole m e) low))) (pos (min (nearestWhole m e) high))
+-- a quotient rounded to the nearest whole number, halves away from zero, then clamped to -low .. high; a NaN gives 0
+unfoldable pub clamped : ℕ → ℕ → Float → ℤ
+clamped low high nan = pos 0
+clamped low high (inf s) = cond s (negℤ (pos low)) (pos high)
+clamped low high (fin s m e) = cond s (negℤ (pos (min (nearestWhole m e) low))) (pos (min (nearestWhole m e) high))
 
 -- b + z, for a z that is not below -b
 abbrev pub above : ℕ → ℤ → ℕ
@@ -24,11 +24,11 @@ above b (negsuc n) = b - suc n
 
 -- INT8: -127 .. 127 in two's complement
 unfoldable pub code8 : ℕ → Float → ℕ
-code8 w scale = ofZ w8 (held 127 127 (div binary32 (float w) scale))
+code8 w scale = ofZ w8 (clamped 127 127 (div binary32 (float w) scale))
 
 -- INT4: -8 .. 7, and 8 added
 unfoldable pub code4 : ℕ → Float → ℕ
-code4 w scale = above 8 (held 8 7 (div binary32 (float w) scale))
+code4 w scale = above 8 (clamped 8 7 (div binary32 (float w) scale))
 
 -- a stored INT8 byte read: code × scale, rounded once
 unfoldable pub read8 : ℕ → Float → Float

@@ -5,7 +5,7 @@ ghost use Prim.Native.Nat.{_≤_};
 ghost use mathlib.Core.Bool.{cond};
 ghost use lib.Ieee.{binary32, div, isNan, lt};
 ghost use Rattle.numbers.specs.Word.{float};
-ghost use Rattle.numbers.specs.Code.{held, above, code8, code4, read8, less8, read4};
+ghost use Rattle.numbers.specs.Code.{clamped, above, code8, code4, read8, less8, read4};
 
 // `a` where it is below `b`, else `b`.
 fn smaller(a: f32, b: f32) -> f32
@@ -17,7 +17,7 @@ fn smaller(a: f32, b: f32) -> f32
 // A magnitude to the nearest whole number, halves upwards, and no more than `most`. `bits` is its pattern.
 fn nearest_whole(bits: u32, most: u16) -> u32
     requires { ⌜ (bits ≤ 2139095040) × (most ≤ 128) ⌝ }
-    ensures { λ r. ⌜ r ≡ above 0 (held 0 most (float bits)) ⌝ }
+    ensures { λ r. ⌜ r ≡ above 0 (clamped 0 most (float bits)) ⌝ }
 {
     let x = smaller(f32::from_bits(bits), most as f32);
     // Beside 2^23 a float has no place for a fraction: the sum is rounded to a whole number, a half to the even one.
@@ -32,10 +32,10 @@ fn number_of(q: f32) -> f32
     if q != q { 0.0 } else { q }
 }
 
-// What `zero` becomes when the number's quotient by the scale, rounded and held in -low .. high, is added.
+// What `zero` becomes when the number's quotient by the scale, rounded and clamped to -low .. high, is added.
 fn quantize(x: u32, scale: f32, low: u16, high: u16, zero: u32) -> u32
     requires { ⌜ (low ≤ 128) × (high ≤ 128) × (low ≤ zero) × (zero ≤ 256) ⌝ }
-    ensures { λ r. ⌜ r ≡ above zero (held low high (div binary32 (float x) scale)) ⌝ }
+    ensures { λ r. ⌜ r ≡ above zero (clamped low high (div binary32 (float x) scale)) ⌝ }
 {
     let bits = f32::to_bits(number_of(word_to_f32(x) / scale));
     let positive = bits < 0x8000_0000;

@@ -4,7 +4,7 @@ use borrow.Author.Needs.{needs}
 use lib.Dec.{le→leb}
 use lib.Ieee.{inFloat}
 use Rattle.numbers.specs.Word.{float}
-use Rattle.numbers.proofs.Halves.{Nearest, clamped, ending, raised-no-nan, one-more, no-more}
+use Rattle.numbers.proofs.Halves.{Nearest, clamped-before, ending, raised-no-nan, one-more, no-more}
 use Rattle.numbers.proofs.Patterns.{up-to-infinity}
 use Rattle.numbers.proofs.Signs.{counts}
 use Rattle.numbers.proofs.codes.nearest_whole.Statement.{statement}
@@ -20,7 +20,7 @@ smaller-requires : tie.Need-smaller-requires
 smaller-requires c κs = search needs
 
 rounds : (c : tie.After-smaller) → let a = c .before .before .args in Nearest (c .smaller .result) (counts (a .most) (float (a .bits)))
-rounds c = let s = c .before .before in rw (c .smaller .ensures) (clamped (s .args .bits) (s .args .most) (s .pre .0) (s .pre .1))
+rounds c = let s = c .before .before in rw (c .smaller .ensures) (clamped-before (s .args .bits) (s .args .most) (s .pre .0) (s .pre .1))
 
 float-to-bits-n : tie.Need-float-to-bits-n
 float-to-bits-n c = raised-no-nan (rounds c)

@@ -1,4 +1,4 @@
--- The quotient comes back from its pattern, whose sign and magnitude give the held number.
+-- The quotient comes back from its pattern, whose sign and magnitude give the clamped number.
 use mathlib.Core.Path.{_≡_, sym, ap, _∙_}
 use mathlib.Core.Logic.{⊎-elim}
 use Prim.Native.Nat.{ℕ, _≤_}
@@ -10,9 +10,9 @@ use lib.Ieee.Bits.{ofBits-toBits}
 use lib.Ieee.Fits.{div-fits}
 use borrow.Author.Needs.{needs}
 use Rattle.numbers.specs.Word.{float}
-use Rattle.numbers.specs.Code.{held, above}
+use Rattle.numbers.specs.Code.{clamped, above}
 use Rattle.numbers.proofs.Patterns.{word-up-to-infinity}
-use Rattle.numbers.proofs.Signs.{counts-up-to, number, number-no-nan, number-fits, number-held, held-up, held-down}
+use Rattle.numbers.proofs.Signs.{counts-up-to, number, number-no-nan, number-fits, number-clamped, clamped-up, clamped-down}
 use Rattle.numbers.proofs.codes.quantize.Statement.{statement}
 use Rattle.numbers.proofs.codes.quantize.Tie as tie
 
@@ -27,7 +27,7 @@ abbrev quotient : tie.Start → Float
 quotient s = div binary32 (float (s .args .x)) (s .args .scale)
 
 abbrev code : tie.Start → Float → ℕ
-code s q = above (s .args .zero) (held (s .args .low) (s .args .high) q)
+code s q = above (s .args .zero) (clamped (s .args .low) (s .args .high) q)
 
 abbrev bits : tie.After-number-of → ℕ
 bits c = toBits binary32 (c .number-of .result)
@@ -43,7 +43,7 @@ module _ (c : tie.After-number-of) where
   in-range = rw is-number (number-fits _ (div-fits binary32 _ _))
 
   code-is : let s = c .before .before in code s (float (bits c)) ≡ code s (quotient s)
-  code-is = rw (ofBits-toBits binary32 _ in-range, is-number, number-held _ _ (quotient (c .before .before)))
+  code-is = rw (ofBits-toBits binary32 _ in-range, is-number, number-clamped _ _ (quotient (c .before .before)))
 
 float-to-bits-bits : tie.Need-float-to-bits-bits
 float-to-bits-bits c = no-nan c
@@ -73,13 +73,13 @@ returns : tie.Need-returns
 returns c =
     let d = c .before .before .before in
     let a = d .before .before .args in
-    rw (← code-is d, held-up (a .low) (a .high) (a .zero) (bits d) (c .if2 .taken), c .before .nearest-whole .ensures, most-up (c .before) (c .if2 .taken))
+    rw (← code-is d, clamped-up (a .low) (a .high) (a .zero) (bits d) (c .if2 .taken), c .before .nearest-whole .ensures, most-up (c .before) (c .if2 .taken))
 
 returns-2 : tie.Need-returns-2
 returns-2 c =
     let d = c .before .before .before in
     let a = d .before .before .args in
-    rw (← code-is d, held-down (a .low) (a .high) (a .zero) (bits d) (c .if2 .left), c .before .nearest-whole .ensures, most-down (c .before) (c .if2 .left))
+    rw (← code-is d, clamped-down (a .low) (a .high) (a .zero) (bits d) (c .if2 .left), c .before .nearest-whole .ensures, most-down (c .before) (c .if2 .left))
 
 pub quantize-spec : {M : Type 1} → statement M
 quantize-spec =
