@@ -1,2 +1,3 @@
+pub mod PositionLaws
 pub mod RunLaws
 pub mod WriteLaws
