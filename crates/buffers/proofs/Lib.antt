@@ -1,0 +1,4 @@
+pub mod Nothing
+pub mod PositionLaws
+pub mod RunLaws
+pub mod WriteLaws
