@@ -1,3 +1,6 @@
+pub mod FitLaws
+pub mod HeadLaws
+pub mod LoopLaws
 pub mod Nothing
 pub mod PositionLaws
 pub mod RunLaws
