@@ -16,7 +16,7 @@ use Rattle.shapes.specs.Buffers.{Buffers}
 use Rattle.store.specs.declared.Record.{Record}
 use Rattle.store.specs.Record.{seqLen, lengthOf, withSeqLen}
 use Rattle.store.specs.Calls.{Store, store, storeRefusals, recordRefusals, appendOf, truncateOf, advanceOf}
-use Rattle.undo.specs.Sequence.{Call, append, truncate, advance, reads, readReply, does, run, counted, accepted}
+use Rattle.undo.specs.Sequence.{Call, append, truncate, advance, reads, does, run, counted, accepted}
 use Rattle.undo.specs.Survivors.{Rows, kept, keptFrom}
 use Rattle.undo.proofs.StoreLaws.{Renders}
 use Rattle.undo.proofs.ChangeLaws.{append-done, truncate-done, advance-done}
@@ -75,7 +75,7 @@ module _ {r : Record} {b : Buffers} {of : ℕ → Rows} (x : Renders (r .shape) 
   step-here (advance count) =
       let flag = eqb (lowest (recordRefusals r ++ ((10 when not (leb (seqLen r + count) 4294967295)) ∷ []))) 0 in
       kept-all flag (advanced flag (seqLen r + count))
-  step-here (reads what) = kept-all (eqb (readReply what (store r b)) 0) x
+  step-here (reads reply) = kept-all (eqb (reply (store r b)) 0) x
 
 -- one call
 pub step : {s : Shape} {t : Store} {of : ℕ → Rows} (c : Call) → Renders s t of → Steps s t of c

@@ -7,7 +7,6 @@ use native.Mathlib.Nat.{mul-div-cancel}
 use native.Mathlib.Omega.{arith}
 use native.Mathlib.Decide.{decLt}
 use lib.ListN.{length}
-use lib.Seq.{ext-getD}
 use borrow.Author.Tests.{le-ltb}
 use Rattle.shapes.specs.declared.Shape.{Shape}
 use Rattle.shapes.specs.Shape.{bytesOf, wordsOf, width, total}
@@ -16,7 +15,8 @@ use Rattle.rows.specs.Row.{rowCells, rowScales}
 use Rattle.layers.proofs.PlaceLaws.{places-same}
 use Rattle.cells.proofs.LentLaws.{buffers-alike}
 use Rattle.store.specs.Record.{lengthOf}
-use Rattle.store.specs.Calls.{Store}
+use Rattle.store.specs.Calls.{Store, store}
+use Rattle.store.proofs.LengthLaws.{same-record}
 use Rattle.undo.specs.Survivors.{Rows}
 use Rattle.undo.specs.Undo.{SameCache}
 use Rattle.undo.proofs.RowLaws.{Holds}
@@ -52,11 +52,10 @@ module _ {s : Shape} {t u : Store} {of of′ : ℕ → Rows} (x : Renders s t of
 
   pub same-rows : SameCache t u
   same-rows =
-      record {
-        same-shape = x .shape-is ∙ sym (y .shape-is);
-        same-lengths = ext-getD 0 (t .rec .lens) (u .rec .lens) (x .lengths-size ∙ sym (y .lengths-size)) (λ l w. same-length l);
-        same-buffers =
-            buffers-alike
-            (same-buffer (rowCells (s .format)) (bytesOf s) _ _ (x .sizes .0) (y .sizes .0) (λ l. x .layer l .cells-held) (λ l. y .layer l .cells-held))
-            (same-buffer (rowScales (s .format)) (wordsOf s) _ _ (x .sizes .1) (y .sizes .1) (λ l. x .layer l .scales-held) (λ l. y .layer l .scales-held));
-      }
+      let a = same-record 0 (x .lengths) (y .lengths) (x .shape-is ∙ sym (y .shape-is)) (λ l w. same-length l) in
+      let c =
+      buffers-alike
+      (same-buffer (rowCells (s .format)) (bytesOf s) _ _ (x .sizes .0) (y .sizes .0) (λ l. x .layer l .cells-held) (λ l. y .layer l .cells-held))
+      (same-buffer (rowScales (s .format)) (wordsOf s) _ _ (x .sizes .1) (y .sizes .1) (λ l. x .layer l .scales-held) (λ l. y .layer l .scales-held))
+      in
+      λ i. store (a i) (c i)

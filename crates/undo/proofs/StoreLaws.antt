@@ -6,11 +6,8 @@ use mathlib.Core.List.{List}
 use Prim.Native.Nat.{ℕ, _+_, _*_, _/_, _≤_, _<_}
 use native.Mathlib.Nat.{mul-div-cancel, mul-mod-left}
 use native.Mathlib.Omega.{arith}
-use native.Mathlib.Decide.{decLt}
-use lib.Dec.{ltb}
-use lib.ListN.{length, getD, replicate, length-replicate, getD-replicate, List·getD-eq-default}
-use borrow.Author.Tests.{lt-ltb, le-ltb, le-leb, eq-eqb, not-false}
-use Rattle.lists.proofs.Some.{some-never}
+use lib.ListN.{length, length-replicate}
+use borrow.Author.Tests.{lt-ltb, le-leb, eq-eqb, not-false}
 use Rattle.replies.specs.Outcome.{outcome}
 use Rattle.replies.proofs.Flags.{both-true}
 use Rattle.replies.proofs.Refusals.{None, lowest-none, none-lowest}
@@ -21,8 +18,9 @@ use Rattle.shapes.specs.Buffers.{Buffers}
 use Rattle.cells.specs.Calls.{room}
 use Rattle.cells.specs.Fits.{InRoom}
 use Rattle.store.specs.declared.Record.{Record}
-use Rattle.store.specs.Record.{lengthOf, mostOf, goodLengths}
+use Rattle.store.specs.Record.{lengthOf}
 use Rattle.store.specs.Calls.{Store, store, empty, storeRefusals, openOf, appendOf}
+use Rattle.store.proofs.LengthLaws.{HasLengths, new-has, new-length, lengths-good}
 use Rattle.undo.specs.Survivors.{Rows, noRows}
 use Rattle.undo.proofs.LayerLaws.{HasRows, Sizes, has-none}
 
@@ -30,14 +28,9 @@ use Rattle.undo.proofs.LayerLaws.{HasRows, Sizes, has-none}
 pub record Renders (s : Shape) (t : Store) (of : ℕ → Rows) : Type 0 where
   pub shape-is : t .rec .shape ≡ s
   pub shape-in : within s ≡ true
-  pub lengths-size : length (t .rec .lens) ≡ 128
+  pub lengths : HasLengths (t .rec)
   pub sizes : Sizes s (t .lent)
   pub layer : (l : ℕ) → HasRows s l (lengthOf (t .rec) l) (of l) (t .lent)
-
--- all lengths of a new record are 0
-no-length : (n l : ℕ) → Dec (l < n) → _≡_ {A = ℕ} (getD (replicate n 0) l 0) 0
-no-length n l (yes u) = getD-replicate n l 0 0 u
-no-length n l (no u) = List·getD-eq-default (replicate n 0) 0 (rw length-replicate (omega arith))
 
 -- a store that was just opened has no rows
 pub opened-left : (s : Shape) (b : Buffers) → openOf s b .reply ≡ 0 → openOf s b .left ≡ empty s
@@ -53,28 +46,28 @@ empty-renders s h =
     record {
       shape-is = refl;
       shape-in = h;
-      lengths-size = length-replicate {A = ℕ} 128 0;
+      lengths = new-has s;
       sizes = (length-replicate {A = ℕ} (cellTotal s) 0, length-replicate {A = ℕ} (scaleTotal s) 0);
-      layer = λ l. rw (no-length 128 l (decLt l 128)) (has-none s l (within-limits s h));
+      layer = λ l. rw (new-length s l) (has-none s l (within-limits s h));
     }
 
 module _ {r : Record} {b : Buffers} {of : ℕ → Rows} (x : Renders (r .shape) (store r b) of) where
   -- its record and buffers are refused by no call
   nothing-refused : None (storeRefusals r b)
-  unfolding exact goodLengths
+  unfolding exact
   nothing-refused = (
     rw (x .shape-in),
     (
       rw (both-true (eq-eqb _ _ (x .sizes .0)) (eq-eqb _ _ (x .sizes .1))),
-      (rw (some-never 128 (λ l. ltb (mostOf (r .shape) l) (lengthOf r l)) (λ l w. le-ltb _ _ (x .layer l .span))), tt),
+      (rw (lengths-good r (λ l. x .layer l .span)), tt),
     ),
   )
 
   pub in-room : {l : ℕ} → l < r .shape .layers → InRoom (r .shape) l (length (b .cells)) (length (b .scales))
   in-room w = record { in-limits = within-limits _ (x .shape-in); layer = w; cell-size = x .sizes .0; scale-size = x .sizes .1 }
 
-  pub layer-in-record : {l : ℕ} → l < r .shape .layers → l < length (r .lens)
-  layer-in-record w = let f = limits-facts _ (within-limits _ (x .shape-in)) .layers-in in omega (arith, x .lengths-size)
+  pub in-record : {l : ℕ} → l < r .shape .layers → l < 128
+  in-record w = let f = limits-facts _ (within-limits _ (x .shape-in)) .layers-in in omega arith
 
   -- rows that fit are accepted
   append-here : (l : ℕ) (keys values : List ℕ) (n : ℕ) → l < r .shape .layers → length keys ≡ n * width (r .shape)

@@ -32,7 +32,7 @@ abbrev pub kept : Shape → ℕ → Rows → Call → Rows
 kept s l r (append m keys values) = cond (eqb m l) (joinedRows r keys values) r
 kept s l r (truncate m n) = cond (eqb m l) (firstRows s n r) r
 kept s l r (advance count) = r
-kept s l r (reads what) = r
+kept s l r (reads reply) = r
 
 -- the rows of layer l after calls that were all accepted, from rows r, and from none
 unfoldable pub keptFrom : Shape → ℕ → Rows → List Call → Rows
