@@ -3,10 +3,10 @@
 use mathlib.Core.Path.{_≡_, refl, sym, subst}
 use mathlib.Core.Bool.{Bool, true, false, cond}
 use mathlib.Core.Logic.{_≢_}
-use mathlib.Core.List.{List}
+use mathlib.Core.List.{List, _++_}
 use Prim.Native.Nat.{ℕ, _+_, _≤_, _<_, min}
 use lib.Dec.{eqb}
-use lib.ListN.{length}
+use lib.ListN.{length, take}
 use borrow.Author.Tests.{lt-ltb, eqb-true, eqb-false}
 use Rattle.shapes.specs.Buffers.{Buffers}
 use Rattle.cells.specs.Calls.{positions, appended, removed}
@@ -15,7 +15,7 @@ use Rattle.store.specs.declared.Record.{Record}
 use Rattle.store.specs.Record.{lengthOf, withLength, withSeqLen}
 use Rattle.store.specs.Calls.{store}
 use Rattle.store.proofs.LengthLaws.{set-has, set-own, set-other, seq-has}
-use Rattle.undo.specs.Survivors.{Rows, joinedRows, firstRows, kept}
+use Rattle.undo.specs.Survivors.{Rows, rowsOf, kept}
 use Rattle.undo.specs.Sequence.{append, truncate}
 use Rattle.undo.proofs.LayerLaws.{HasRows, Sizes, append-sizes, append-others, append-own}
 use Rattle.undo.proofs.CutLaws.{truncate-sizes, truncate-others, truncate-own}
@@ -52,7 +52,7 @@ module _ {r : Record} {b : Buffers} {of : ℕ → Rows} (x : Renders (r .shape) 
       (λ m. kept (r .shape) m (of m) (append l keys values))
   append-done l keys values w q =
       let held = lengthOf r l in
-      layer-changed l _ (λ m. joinedRows (of m) keys values) _ w (append-own b (in-room x w) held keys values q (x .layer l))
+      layer-changed l _ (λ m. of m ++ rowsOf (r .shape) keys values) _ w (append-own b (in-room x w) held keys values q (x .layer l))
       (λ m d. append-others b (in-room x w) held keys values q d (x .layer m))
       (append-sizes b (in-room x w) held keys values q)
 
@@ -62,7 +62,7 @@ module _ {r : Record} {b : Buffers} {of : ℕ → Rows} (x : Renders (r .shape) 
   truncate-done l n w =
       let held = lengthOf r l in
       let v : held ≤ r .shape .capacity = rw (lt-ltb l (r .shape .layers) w) at (x .layer l .span) in
-      layer-changed l _ (λ m. firstRows (r .shape) n (of m)) _ w
+      layer-changed l _ (λ m. take n (of m)) _ w
       (truncate-own b (in-room x w) held n v (x .layer l))
       (λ m d. truncate-others b (in-room x w) held n v d (x .layer m))
       (truncate-sizes b (in-room x w) held n v)
