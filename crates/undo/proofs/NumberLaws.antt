@@ -20,9 +20,12 @@ use Rattle.layers.specs.Calls.{headNumbers, sideOf}
 use Rattle.cells.specs.Calls.{positions}
 use Rattle.undo.specs.Survivors.{Position, Rows, position, noRows, rowsOf, positionAt, keysOf, valuesOf}
 
--- each position has the numbers of all heads
+-- a position has the numbers of all heads, and so has each of some rows
+abbrev Wide : Shape → Position → Type 0
+Wide s x = (length (x .keys) ≡ width s) × (length (x .values) ≡ width s)
+
 pub record Whole (s : Shape) (r : Rows) : Type 0 where
-  pub wide : (p : ℕ) → p < length r → (length (positionAt r p .keys) ≡ width s) × (length (positionAt r p .values) ≡ width s)
+  pub wide : (p : ℕ) → p < length r → Wide s (positionAt r p)
 
 pub whole-none : (s : Shape) → Whole s noRows
 whole-none s = record { wide = λ p w. absurd (omega arith) }
@@ -34,8 +37,7 @@ module _ {s : Shape} {r : Rows} (x : Whole s r) where
         wide = λ p w. let v : p < n = omega (arith, length-take n r) in rw (getD-take n r p (position [] []) v) (x .wide p (omega (arith, length-take n r)));
       }
 
-  wide-at : {r′ : Rows} → Whole s r′ → (p : ℕ) → p < length (r ++ r′) → Dec (p < length r)
-      → (length (positionAt (r ++ r′) p .keys) ≡ width s) × (length (positionAt (r ++ r′) p .values) ≡ width s)
+  wide-at : {r′ : Rows} → Whole s r′ → (p : ℕ) → p < length (r ++ r′) → Dec (p < length r) → Wide s (positionAt (r ++ r′) p)
   wide-at {r′} y p w (yes u) = rw (List·getD-append r r′ (position [] []) p u) (x .wide p u)
   wide-at {r′} y p w (no u) =
       let e : p ≡ length r + (p - length r) = omega arith in
