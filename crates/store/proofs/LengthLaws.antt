@@ -12,6 +12,8 @@ use lib.Seq.{getD-set-same, getD-set-other, ext-getD}
 use borrow.Author.Tests.{le-ltb}
 use Rattle.lists.proofs.Some.{some-never}
 use Rattle.shapes.specs.declared.Shape.{Shape}
+use Rattle.shapes.specs.Shape.{within}
+use Rattle.shapes.proofs.ShapeLaws.{limits-facts, within-limits}
 use Rattle.store.specs.declared.Record.{Record}
 use Rattle.store.specs.Record.{lengthOf, mostOf, goodLengths, newRecord, withLength, withSeqLen}
 
@@ -35,8 +37,8 @@ module _ {r : Record} (x : HasLengths r) (l n : ℕ) where
   pub set-has : HasLengths (withLength r l n)
   set-has = record { count = length-set (r .lens) l n ∙ x .count }
 
-  pub set-own : l < 128 → lengthOf (withLength r l n) l ≡ n
-  set-own w = getD-set-same (r .lens) l n 0 (omega arith)
+  pub set-own : within (r .shape) ≡ true → l < r .shape .layers → lengthOf (withLength r l n) l ≡ n
+  set-own h w = let f = limits-facts _ (within-limits _ h) .layers-in in getD-set-same (r .lens) l n 0 (omega arith)
 
   pub set-other : {m : ℕ} → m ≢ l → lengthOf (withLength r l n) m ≡ lengthOf r m
   set-other {m} d = getD-set-other (r .lens) l m n 0 d

@@ -19,7 +19,7 @@ use Rattle.undo.specs.Survivors.{Rows, rowsOf, kept}
 use Rattle.undo.specs.Sequence.{append, truncate}
 use Rattle.undo.proofs.LayerLaws.{HasRows, Sizes, append-sizes, append-others, append-own}
 use Rattle.undo.proofs.CutLaws.{truncate-sizes, truncate-others, truncate-own}
-use Rattle.undo.proofs.StoreLaws.{Renders, in-room, in-record}
+use Rattle.undo.proofs.StoreLaws.{Renders, in-room}
 
 module _ {r : Record} {b : Buffers} {of : ℕ → Rows} (x : Renders (r .shape) (store r b) of) where
   -- layer l alone changed, to n positions that are the rows `new l`
@@ -28,7 +28,7 @@ module _ {r : Record} {b : Buffers} {of : ℕ → Rows} (x : Renders (r .shape) 
     changed-at : (m : ℕ) (f : Bool) → eqb l m ≡ f → HasRows (r .shape) m (lengthOf (withLength r l n) m) (cond f (new m) (of m)) c
     changed-at m true e =
         subst (λ (m : ℕ). HasRows (r .shape) m (lengthOf (withLength r l n) m) (new m) c) (eqb-true l m e)
-        (rw (set-own (x .lengths) l n (in-record x w)) own)
+        (rw (set-own (x .lengths) l n (x .shape-in) w) own)
     changed-at m false e =
         let d : m ≢ l = λ h. eqb-false l m e (sym h) in
         rw (set-other (x .lengths) l n d) (others m d)

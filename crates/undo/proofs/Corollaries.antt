@@ -41,10 +41,17 @@ module _ (s : Shape) (b : Buffers) (opened : openOf s b .reply ≡ 0) (calls : L
     pub withdrawn-rows-never-seen : SameAnswers (after s b calls) fresh
     withdrawn-rows-never-seen A answer = ap answer (undo-is-real s b b′ opened opened′ calls .0)
 
-    -- and so do the calls that read
     abbrev pub Alike : {A : Type 0} → (Store → A) → Type 0
     Alike answer = answer (after s b calls) ≡ answer fresh
 
+    -- so do all lengths and both whole buffers
+    pub same-lengths : (l : ℕ) → Alike (λ t. lengthOf (t .rec) l)
+    same-lengths l = withdrawn-rows-never-seen _ (λ t. lengthOf (t .rec) l)
+
+    pub same-buffers : Alike (λ t. t .lent)
+    same-buffers = withdrawn-rows-never-seen _ (λ t. t .lent)
+
+    -- and so do the calls that read
     pub same-length : (l : ℕ) → Alike (λ t. cachedLenOf (t .rec) l)
     unfolding cachedLenOf goodLengths
     same-length l = withdrawn-rows-never-seen _ (λ t. cachedLenOf (t .rec) l)

@@ -5,7 +5,6 @@ use mathlib.Core.Bool.{true}
 use mathlib.Core.List.{List}
 use Prim.Native.Nat.{ℕ, _+_, _*_, _/_, _≤_, _<_}
 use native.Mathlib.Nat.{mul-div-cancel, mul-mod-left}
-use native.Mathlib.Omega.{arith}
 use lib.ListN.{length, length-replicate}
 use borrow.Author.Tests.{lt-ltb, le-leb, eq-eqb, not-false}
 use Rattle.replies.specs.Outcome.{outcome}
@@ -13,7 +12,7 @@ use Rattle.replies.proofs.Flags.{both-true}
 use Rattle.replies.proofs.Refusals.{None, lowest-none, none-lowest, passed-before}
 use Rattle.shapes.specs.declared.Shape.{Shape}
 use Rattle.shapes.specs.Shape.{width, cellTotal, scaleTotal, within, exact}
-use Rattle.shapes.proofs.ShapeLaws.{limits-facts, within-limits, width-in}
+use Rattle.shapes.proofs.ShapeLaws.{within-limits, width-in}
 use Rattle.shapes.specs.Buffers.{Buffers}
 use Rattle.cells.specs.Calls.{room, appendRefusals}
 use Rattle.cells.specs.Fits.{InRoom}
@@ -55,9 +54,6 @@ module _ {s : Shape} {t : Store} {of : ℕ → Rows} (x : Renders s t of) where
 
   pub in-room : {l : ℕ} → l < s .layers → InRoom s l (length (t .lent .cells)) (length (t .lent .scales))
   in-room w = record { in-limits = within-limits s (x .shape-in); layer = w; cell-size = x .sizes .0; scale-size = x .sizes .1 }
-
-  pub in-record : {l : ℕ} → l < s .layers → l < 128
-  in-record w = let f = limits-facts s (within-limits s (x .shape-in)) .layers-in in omega arith
 
   -- rows that fit are accepted
   pub append-accepted : (l : ℕ) (keys values : List ℕ) (n : ℕ) → l < s .layers → length keys ≡ n * width s → length values ≡ n * width s
