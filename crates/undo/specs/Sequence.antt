@@ -14,8 +14,8 @@ pub data Call : Type 0 where
   truncate : ℕ → ℕ → Call
   -- a count
   advance : ℕ → Call
-  -- a call that reads, by its reply, which is any function of the store: λ t. readOf (t .rec) (t .lent) l side h p out .reply
-  -- reads a row, and so do cachedLenOf, memoryBytesOf, headScoresOf and headSumsOf read
+  -- a call that reads, by its reply: any function of the store, such as λ t. readOf (t .rec) (t .lent) l side h p out .reply,
+  -- and likewise by cachedLenOf, memoryBytesOf, headScoresOf and headSumsOf
   reads : (Store → ℕ) → Call
 
 -- what a call answers and leaves: an advance has no buffers, and reading leaves the store
