@@ -1,5 +1,6 @@
 pub mod CallLaws
 pub mod Determined
 pub mod Exactly
+pub mod LengthLaws
 pub mod Nothing
 pub mod StoreLaws

@@ -1,13 +1,12 @@
 -- A store whose every layer has given rows and nothing else: an accepted append, truncation or advance leaves such a store.
 -- An append or a truncation moves the rows of its own layer, by the laws of layers; an advance moves none.
-use mathlib.Core.Path.{_≡_, refl, sym, subst, _∙_}
+use mathlib.Core.Path.{_≡_, refl, sym, subst}
 use mathlib.Core.Bool.{Bool, true, false, cond}
 use mathlib.Core.Logic.{_≢_}
-use mathlib.Core.List.{List}
+use mathlib.Core.List.{List, _++_}
 use Prim.Native.Nat.{ℕ, _+_, _≤_, _<_, min}
 use lib.Dec.{eqb}
-use lib.ListN.{length, length-set}
-use lib.Seq.{getD-set-same, getD-set-other}
+use lib.ListN.{length, take}
 use borrow.Author.Tests.{lt-ltb, eqb-true, eqb-false}
 use Rattle.shapes.specs.Buffers.{Buffers}
 use Rattle.cells.specs.Calls.{positions, appended, removed}
@@ -15,11 +14,12 @@ use Rattle.cells.specs.Fits.{RowsIn}
 use Rattle.store.specs.declared.Record.{Record}
 use Rattle.store.specs.Record.{lengthOf, withLength, withSeqLen}
 use Rattle.store.specs.Calls.{store}
-use Rattle.undo.specs.Survivors.{Rows, joinedRows, firstRows, kept}
+use Rattle.store.proofs.LengthLaws.{set-has, set-own, set-other, seq-has}
+use Rattle.undo.specs.Survivors.{Rows, rowsOf, kept}
 use Rattle.undo.specs.Sequence.{append, truncate}
 use Rattle.undo.proofs.LayerLaws.{HasRows, Sizes, append-sizes, append-others, append-own}
 use Rattle.undo.proofs.CutLaws.{truncate-sizes, truncate-others, truncate-own}
-use Rattle.undo.proofs.StoreLaws.{Renders, in-room, layer-in-record}
+use Rattle.undo.proofs.StoreLaws.{Renders, in-room}
 
 module _ {r : Record} {b : Buffers} {of : ℕ → Rows} (x : Renders (r .shape) (store r b) of) where
   -- layer l alone changed, to n positions that are the rows `new l`
@@ -28,10 +28,10 @@ module _ {r : Record} {b : Buffers} {of : ℕ → Rows} (x : Renders (r .shape) 
     changed-at : (m : ℕ) (f : Bool) → eqb l m ≡ f → HasRows (r .shape) m (lengthOf (withLength r l n) m) (cond f (new m) (of m)) c
     changed-at m true e =
         subst (λ (m : ℕ). HasRows (r .shape) m (lengthOf (withLength r l n) m) (new m) c) (eqb-true l m e)
-        (rw (getD-set-same (r .lens) l n 0 (layer-in-record x w)) own)
+        (rw (set-own (x .lengths) l n (x .shape-in) w) own)
     changed-at m false e =
         let d : m ≢ l = λ h. eqb-false l m e (sym h) in
-        rw (getD-set-other (r .lens) l m n 0 d) (others m d)
+        rw (set-other (x .lengths) l n d) (others m d)
 
     layer-changed : Sizes (r .shape) c
         → Renders (r .shape) (store (withLength r l n) c) (λ m. cond (eqb l m) (new m) (of m))
@@ -39,7 +39,7 @@ module _ {r : Record} {b : Buffers} {of : ℕ → Rows} (x : Renders (r .shape) 
         record {
           shape-is = refl;
           shape-in = x .shape-in;
-          lengths-size = length-set (r .lens) l n ∙ x .lengths-size;
+          lengths = set-has (x .lengths) l n;
           sizes = z;
           layer = λ m. changed-at m (eqb l m) refl;
         }
@@ -52,7 +52,7 @@ module _ {r : Record} {b : Buffers} {of : ℕ → Rows} (x : Renders (r .shape) 
       (λ m. kept (r .shape) m (of m) (append l keys values))
   append-done l keys values w q =
       let held = lengthOf r l in
-      layer-changed l _ (λ m. joinedRows (of m) keys values) _ w (append-own b (in-room x w) held keys values q (x .layer l))
+      layer-changed l _ (λ m. of m ++ rowsOf (r .shape) keys values) _ w (append-own b (in-room x w) held keys values q (x .layer l))
       (λ m d. append-others b (in-room x w) held keys values q d (x .layer m))
       (append-sizes b (in-room x w) held keys values q)
 
@@ -62,7 +62,7 @@ module _ {r : Record} {b : Buffers} {of : ℕ → Rows} (x : Renders (r .shape) 
   truncate-done l n w =
       let held = lengthOf r l in
       let v : held ≤ r .shape .capacity = rw (lt-ltb l (r .shape .layers) w) at (x .layer l .span) in
-      layer-changed l _ (λ m. firstRows (r .shape) n (of m)) _ w
+      layer-changed l _ (λ m. take n (of m)) _ w
       (truncate-own b (in-room x w) held n v (x .layer l))
       (λ m d. truncate-others b (in-room x w) held n v d (x .layer m))
       (truncate-sizes b (in-room x w) held n v)
@@ -70,4 +70,4 @@ module _ {r : Record} {b : Buffers} {of : ℕ → Rows} (x : Renders (r .shape) 
   -- the sequence number is nothing of it
   pub advance-done : (n : ℕ) → Renders (r .shape) (store (withSeqLen r n) b) of
   advance-done n =
-      record { shape-is = refl; shape-in = x .shape-in; lengths-size = x .lengths-size; sizes = x .sizes; layer = x .layer }
+      record { shape-is = refl; shape-in = x .shape-in; lengths = seq-has (x .lengths) n; sizes = x .sizes; layer = x .layer }

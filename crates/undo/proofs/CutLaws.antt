@@ -3,14 +3,13 @@
 use mathlib.Core.Path.{_≡_, sym, subst}
 use mathlib.Core.Logic.{_≢_}
 use mathlib.Core.List.{List}
-use Prim.Native.Nat.{ℕ, _-_, _*_, _≤_, _<_, min}
-use native.Mathlib.Nat.{mul-le-mul-right}
+use Prim.Native.Nat.{ℕ, _-_, _≤_, _<_, min}
 use native.Mathlib.Omega.{arith}
 use native.Mathlib.Decide.{decLt}
-use lib.ListN.{length, length-replicate}
+use lib.ListN.{length, take, length-replicate}
 use lib.Seq.{take-all, length-take-le}
 use Rattle.shapes.specs.declared.Shape.{Shape}
-use Rattle.shapes.specs.Shape.{bytesOf, wordsOf, width, total}
+use Rattle.shapes.specs.Shape.{bytesOf, wordsOf, total}
 use Rattle.rows.specs.Row.{rowCells, rowScales}
 use Rattle.shapes.specs.Buffers.{Buffers}
 use Rattle.layers.specs.Layer.{zeros}
@@ -18,17 +17,10 @@ use Rattle.layers.proofs.LayerLaws.{written-none}
 use Rattle.layers.proofs.PlaceLaws.{Written}
 use Rattle.cells.specs.Calls.{removed}
 use Rattle.cells.specs.Fits.{InRoom}
-use Rattle.undo.specs.Survivors.{Rows, first, firstRows}
+use Rattle.undo.specs.Survivors.{Rows}
 use Rattle.undo.proofs.RowLaws.{holds-cut}
-use Rattle.undo.proofs.NumberLaws.{first-rows}
+use Rattle.undo.proofs.NumberLaws.{whole-first, first-rows}
 use Rattle.undo.proofs.LayerLaws.{HasRows, Sizes, written-size, has-still}
-
--- the first t positions of n: their size, and all of them where t is not below n
-first-size : (s : Shape) (n t : ℕ) (a : List ℕ) → length a ≡ n * width s → t < n → length (first s t a) ≡ t * width s
-first-size s n t a e u = length-take-le (t * width s) a (rw e (mul-le-mul-right (width s) (omega arith)))
-
-first-all : (s : Shape) (n t : ℕ) (a : List ℕ) → length a ≡ n * width s → n ≤ t → first s t a ≡ a
-first-all s n t a e u = take-all (t * width s) a (rw e (mul-le-mul-right (width s) u))
 
 -- layer m, which has `held` positions, truncated to t: positions are removed where t is below `held`
 module _ {s : Shape} {m : ℕ} (b : Buffers) (k : InRoom s m (length (b .cells)) (length (b .scales))) (held t : ℕ) (w : held ≤ s .capacity) where
@@ -57,24 +49,22 @@ module _ {s : Shape} {m : ℕ} (b : Buffers) (k : InRoom s m (length (b .cells))
   pub truncate-others : {l n : ℕ} {r : Rows} → l ≢ m → HasRows s l n r b → HasRows s l n r (removed s m held t b)
   truncate-others {l} {n} {r} d x = cut-or-not (HasRows s l n r) (decLt t held) (λ u. cut-others u d x) (λ h. x)
 
-  cut-own : t < held → {r : Rows} → HasRows s m held r b → HasRows s m (min held t) (firstRows s t r) (removed s m held t b)
+  cut-own : t < held → {r : Rows} → HasRows s m held r b → HasRows s m (min held t) (take t r) (removed s m held t b)
   unfolding removed
   cut-own u {r} x =
       let e : min held t ≡ t = omega arith in
       rw e
       (record {
-        keys-size = first-size s held t (r .keys) (x .keys-size) u;
-        values-size = first-size s held t (r .values) (x .values-size) u;
+        count = length-take-le t r (omega (arith, x .count));
+        whole = whole-first (x .whole) t;
         span = omega (arith, x .span);
         cells-held = holds-cut (x .cells-held) (cut (bytesOf s) u (k .cell-size)) u (first-rows (rowCells (s .format)) s r t);
         scales-held = holds-cut (x .scales-held) (cut (wordsOf s) u (k .scale-size)) u (first-rows (rowScales (s .format)) s r t);
       })
 
-  pub truncate-own : {r : Rows} → HasRows s m held r b → HasRows s m (min held t) (firstRows s t r) (removed s m held t b)
+  pub truncate-own : {r : Rows} → HasRows s m held r b → HasRows s m (min held t) (take t r) (removed s m held t b)
   truncate-own {r} x =
-      cut-or-not (HasRows s m (min held t) (firstRows s t r)) (decLt t held) (λ u. cut-own u x)
+      cut-or-not (HasRows s m (min held t) (take t r)) (decLt t held) (λ u. cut-own u x)
       (λ h.
       let e : min held t ≡ held = omega arith in
-      let a = first-all s held t (r .keys) (x .keys-size) h in
-      let c = first-all s held t (r .values) (x .values-size) h in
-      rw (e, a, c) x)
+      rw (e, take-all t r (omega (arith, x .count))) x)

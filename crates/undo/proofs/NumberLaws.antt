@@ -1,55 +1,110 @@
--- The numbers of a head at a position, where rows are appended to others or only the first are kept.
--- Each holds by the laws of parts, since the rows are whole positions.
-use mathlib.Core.Path.{_≡_, refl, ap}
+-- Rows as a list of positions: appended to others, cut to the first, joined again, and what stands for a head at each of them.
+-- Each holds position by position, by the laws of lists and parts.
+use mathlib.Core.Path.{_≡_, refl, sym}
 use mathlib.Core.Bool.{Bool, true, false, cond}
-use mathlib.Core.List.{List, _++_}
-use Prim.Native.Nat.{ℕ, _+_, _*_, _<_}
-use native.Mathlib.Nat.{add-mul}
+use mathlib.Core.List.{List, [], _++_}
+use Prim.Native.Nat.{ℕ, _+_, _-_, _*_, _<_}
+use native.Mathlib.Nat.{mul-div-cancel}
 use native.Mathlib.Omega.{arith}
+use native.Mathlib.Decide.{decLt}
 use lib.Dec.{eqb}
-use lib.ListN.{length}
-use Rattle.lists.proofs.Part.{part-take, part-left, part-right}
+use lib.ListN.{length, take, length-append, length-take, List·getD-append}
+use lib.Seq.{getD-take, getD-append-add}
+use Rattle.lists.specs.Chunks.{part}
+use Rattle.lists.proofs.Part.{room, part-length, part-part}
+use Rattle.lists.proofs.Tab.{tab-length, tab-getD, tab-of}
+use Rattle.lists.proofs.Joined.{joined-length, joined-part}
 use Rattle.shapes.specs.declared.Shape.{Shape}
 use Rattle.shapes.specs.Shape.{headSize, width}
 use Rattle.layers.specs.Calls.{headNumbers, sideOf}
-use Rattle.layers.proofs.RunLaws.{numbers-in, side-size}
-use Rattle.undo.specs.Survivors.{Rows, rows, joinedRows, first, firstRows}
+use Rattle.cells.specs.Calls.{positions}
+use Rattle.undo.specs.Survivors.{Position, Rows, position, noRows, rowsOf, positionAt, keysOf, valuesOf}
 
--- either side of what is put together or kept is put together or kept
-either-joined : {A : Type 0} (t : Bool) (a b c d : List A) → cond t (a ++ c) (b ++ d) ≡ cond t a b ++ cond t c d
-either-joined true a b c d = refl
-either-joined false a b c d = refl
+-- a position has the numbers of all heads, and so has each of some rows
+abbrev Wide : Shape → Position → Type 0
+Wide s x = (length (x .keys) ≡ width s) × (length (x .values) ≡ width s)
 
-either-first : (s : Shape) (n : ℕ) (t : Bool) (a b : List ℕ) → cond t (first s n a) (first s n b) ≡ first s n (cond t a b)
-either-first s n true a b = refl
-either-first s n false a b = refl
+pub record Whole (s : Shape) (r : Rows) : Type 0 where
+  pub wide : (p : ℕ) → p < length r → Wide s (positionAt r p)
 
--- what stands for a side, a head and a position of rows, encoded as cells or as scale words
-abbrev pub encoded : (List ℕ → List ℕ) → Shape → Rows → ℕ → ℕ → ℕ → List ℕ
-encoded enc s r side h p = enc (headNumbers s (sideOf (r .keys) (r .values) side) h p)
+pub whole-none : (s : Shape) → Whole s noRows
+whole-none s = record { wide = λ p w. absurd (omega arith) }
 
-module _ (enc : List ℕ → List ℕ) (s : Shape) (r : Rows) where
-  -- the first t rows
-  pub first-rows : (t side h p : ℕ) → h < s .heads → p < t → encoded enc s (firstRows s t r) side h p ≡ encoded enc s r side h p
-  first-rows t side h p w u =
-      rw (either-first s t (eqb side 0) (r .keys) (r .values))
-      (ap enc (part-take (p * width s + h * headSize s) (headSize s) (t * width s) (sideOf (r .keys) (r .values) side) (numbers-in s u w)))
+module _ {s : Shape} {r : Rows} (x : Whole s r) where
+  pub whole-first : (n : ℕ) → Whole s (take n r)
+  whole-first n =
+      record {
+        wide = λ p w. let v : p < n = omega (arith, length-take n r) in rw (getD-take n r p (position [] []) v) (x .wide p (omega (arith, length-take n r)));
+      }
 
-  -- n rows, and those that were appended to them
-  module _ (keys values : List ℕ) (n : ℕ) (k : length (r .keys) ≡ n * width s) (v : length (r .values) ≡ n * width s) (side h : ℕ) where
-    size : length (sideOf (r .keys) (r .values) side) ≡ n * width s
-    size = side-size (r .keys) (r .values) k v side
+  wide-at : {r′ : Rows} → Whole s r′ → (p : ℕ) → p < length (r ++ r′) → Dec (p < length r) → Wide s (positionAt (r ++ r′) p)
+  wide-at {r′} y p w (yes u) = rw (List·getD-append r r′ (position [] []) p u) (x .wide p u)
+  wide-at {r′} y p w (no u) =
+      let e : p ≡ length r + (p - length r) = omega arith in
+      rw (e, getD-append-add r r′ (p - length r) (position [] [])) (y .wide (p - length r) (omega (arith, length-append r r′)))
 
-    pub old-rows : (p : ℕ) → h < s .heads → p < n → encoded enc s (joinedRows r keys values) side h p ≡ encoded enc s r side h p
-    old-rows p w u =
-        rw (either-joined (eqb side 0) (r .keys) (r .values) keys values)
-        (ap enc
-        (part-left (p * width s + h * headSize s) (headSize s) (sideOf (r .keys) (r .values) side) (sideOf keys values side)
-        (rw size (numbers-in s u w))))
+  pub whole-joined : {r′ : Rows} → Whole s r′ → Whole s (r ++ r′)
+  whole-joined y = record { wide = λ p w. wide-at y p w (decLt p (length r)) }
 
-    pub new-rows : (i : ℕ) → encoded enc s (joinedRows r keys values) side h (n + i) ≡ encoded enc s (rows keys values) side h i
-    new-rows i =
-        let e : (n + i) * width s + h * headSize s ≡ n * width s + (i * width s + h * headSize s) = omega (arith, add-mul n i (width s)) in
-        rw (either-joined (eqb side 0) (r .keys) (r .values) keys values, e)
-        (ap enc
-        (part-right (n * width s) (i * width s + h * headSize s) (headSize s) (sideOf (r .keys) (r .values) side) (sideOf keys values side) size))
+  -- joined, they have as many numbers, and cut again they are as they were
+  pub keys-size : length (keysOf r) ≡ length r * width s
+  keys-size = joined-length (width s) (length r) (λ p. positionAt r p .keys) (λ p w. x .wide p w .0)
+
+  pub values-size : length (valuesOf r) ≡ length r * width s
+  values-size = joined-length (width s) (length r) (λ p. positionAt r p .values) (λ p w. x .wide p w .1)
+
+  pub cut-again : 0 < width s → rowsOf s (keysOf r) (valuesOf r) ≡ r
+  cut-again d =
+      let n : positions s (length (keysOf r)) ≡ length r = rw keys-size (mul-div-cancel (length r) d) in
+      rw n
+      (sym
+      (tab-of (length r) _ r (position [] []) refl
+      (λ p w.
+      rw (
+        joined-part (width s) (length r) p (λ p. positionAt r p .keys) (λ p w. x .wide p w .0) w,
+        joined-part (width s) (length r) p (λ p. positionAt r p .values) (λ p w. x .wide p w .1) w,
+      ))))
+
+-- appended keys and values
+module _ (s : Shape) (keys values : List ℕ) where
+  pub whole-given : length keys ≡ positions s (length keys) * width s → length values ≡ positions s (length keys) * width s → Whole s (rowsOf s keys values)
+  whole-given k v =
+      record {
+        wide = λ p w.
+            let u : p < positions s (length keys) = rw tab-length at w in
+            rw (tab-getD _ _ p (position [] []) u)
+            (part-length (p * width s) (width s) keys (omega (arith, room (width s) u)), part-length (p * width s) (width s) values (omega (arith, room (width s) u)));
+      }
+
+-- a part of either side is of both
+either-part : (t : Bool) (a k : ℕ) (keys values : List ℕ) → cond t (part a k keys) (part a k values) ≡ part a k (cond t keys values)
+either-part true a k keys values = refl
+either-part false a k keys values = refl
+
+-- what stands for a side, a head and a position, encoded as cells or as scale words: of rows, and of keys and values that are appended
+module _ (enc : List ℕ → List ℕ) (s : Shape) where
+  abbrev pub encoded : Rows → ℕ → ℕ → ℕ → List ℕ
+  encoded r side h p = enc (part (h * headSize s) (headSize s) (sideOf (positionAt r p .keys) (positionAt r p .values) side))
+
+  abbrev pub given : List ℕ → List ℕ → ℕ → ℕ → ℕ → List ℕ
+  given keys values side h p = enc (headNumbers s (sideOf keys values side) h p)
+
+  module _ (r : Rows) where
+    -- the first t rows
+    pub first-rows : (t side h p : ℕ) → h < s .heads → p < t → encoded (take t r) side h p ≡ encoded r side h p
+    first-rows t side h p w u = rw (getD-take t r p (position [] []) u)
+
+    -- n rows, and those that were appended to them
+    module _ (n : ℕ) (e : length r ≡ n) (keys values : List ℕ) (side h : ℕ) where
+      pub old-rows : (p : ℕ) → h < s .heads → p < n → encoded (r ++ rowsOf s keys values) side h p ≡ encoded r side h p
+      old-rows p w u = rw (List·getD-append r (rowsOf s keys values) (position [] []) p (omega arith))
+
+      pub new-rows : (i : ℕ) → h < s .heads → i < positions s (length keys) → encoded (r ++ rowsOf s keys values) side h (n + i) ≡ given keys values side h i
+      new-rows i w u =
+          rw (
+            ← e,
+            getD-append-add r (rowsOf s keys values) i (position [] []),
+            tab-getD _ _ i (position [] []) u,
+            either-part (eqb side 0) (i * width s) (width s) keys values,
+            part-part (i * width s) (width s) (h * headSize s) (headSize s) (sideOf keys values side) (room (headSize s) w),
+          )

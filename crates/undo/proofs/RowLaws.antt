@@ -43,7 +43,7 @@ module _ {b : ℕ} {s : Shape} {l n : ℕ} {rows : ℕ → ℕ → ℕ → List 
   -- after k rows written at their end: all is the old rows and then the new ones
   module _ {k : ℕ} {new all : ℕ → ℕ → ℕ → List ℕ} (w : Written b s l n k new buf)
       (old-rows : (side h p : ℕ) → h < s .heads → p < n → all side h p ≡ rows side h p)
-      (new-rows : (side h i : ℕ) → all side h (n + i) ≡ new side h i) where
+      (new-rows : (side h i : ℕ) → h < s .heads → i < k → all side h (n + i) ≡ new side h i) where
     added-at : (side h p : ℕ) → Place s l side h p → Dec (p < n) → Dec (p < n + k)
         → part (place b s l side h p) b (written b s l n k new buf) ≡ cond (ltb p (n + k)) (all side h p) (replicate b 0)
     added-at side h p u (yes x) d =
@@ -52,7 +52,7 @@ module _ {b : ℕ} {s : Shape} {l n : ℕ} {rows : ℕ → ℕ → ℕ → List 
         ∙ rw (lt-ltb p n x, lt-ltb p (n + k) (omega arith), old-rows side h p (u .head-in) x)
     added-at side h p u (no x) (yes y) =
         let e : n + (p - n) ≡ p = omega arith in
-        written-there b u w (omega arith) y ∙ rw (lt-ltb p (n + k) y) (sym (new-rows side h (p - n)) ∙ rw e)
+        written-there b u w (omega arith) y ∙ rw (lt-ltb p (n + k) y) (sym (new-rows side h (p - n) (u .head-in) (omega arith)) ∙ rw e)
     added-at side h p u (no x) (no y) =
         written-elsewhere b u w (inr (inr (omega arith)))
         ∙ held .row side h p u

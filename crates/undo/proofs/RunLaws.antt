@@ -7,8 +7,8 @@ use Prim.Native.Nat.{ℕ, _+_}
 use lib.Dec.{eqb, leb}
 use lib.ListN.{length}
 use borrow.Author.Tests.{ltb-true, eqb-true, not-false}
-use Rattle.replies.specs.Outcome.{_when_, lowest, outcome}
-use Rattle.replies.proofs.Refusals.{lowest-none, none-lowest}
+use Rattle.replies.specs.Outcome.{Refusal, _when_, lowest, outcome}
+use Rattle.replies.proofs.Refusals.{None, rising, lowest-none, none-lowest}
 use Rattle.shapes.specs.declared.Shape.{Shape}
 use Rattle.cells.specs.Calls.{appendRefusals, removeRefusals}
 use Rattle.cells.proofs.ReplyLaws.{append-fits}
@@ -16,7 +16,7 @@ use Rattle.shapes.specs.Buffers.{Buffers}
 use Rattle.store.specs.declared.Record.{Record}
 use Rattle.store.specs.Record.{seqLen, lengthOf, withSeqLen}
 use Rattle.store.specs.Calls.{Store, store, storeRefusals, recordRefusals, appendOf, truncateOf, advanceOf}
-use Rattle.undo.specs.Sequence.{Call, append, truncate, advance, reads, readReply, does, run, counted, accepted}
+use Rattle.undo.specs.Sequence.{Call, append, truncate, advance, reads, does, run, counted, accepted}
 use Rattle.undo.specs.Survivors.{Rows, kept, keptFrom}
 use Rattle.undo.proofs.StoreLaws.{Renders}
 use Rattle.undo.proofs.ChangeLaws.{append-done, truncate-done, advance-done}
@@ -26,10 +26,14 @@ renders-same : {s : Shape} {t : Store} {of of′ : ℕ → Rows} → ((l : ℕ) 
 renders-same {s} {t} e x = subst (λ (f : ℕ → Rows). Renders s t f) (λ i l. e l i) x
 
 -- what an accepted call leaves, and a refused one
-either : {s : Shape} {f g : ℕ → Rows} (flag : Bool) (new old : Store) → (flag ≡ true → Renders s new f) → (flag ≡ false → Renders s old g)
+either : {s : Shape} {f g : ℕ → Rows} {new old : Store} (flag : Bool) → (flag ≡ true → Renders s new f) → Renders s old g
     → Renders s (cond flag new old) (λ l. cond flag (f l) (g l))
-either true new old x y = x refl
-either false new old x y = y refl
+either true x y = x refl
+either false x y = y
+
+outcome-renders : {s : Shape} {f g : ℕ → Rows} {new old : Store} (refusals : List Refusal) → rising 0 refusals ≡ true
+    → (None refusals → Renders s new f) → Renders s old g → let flag = eqb (lowest refusals) 0 in Renders s (cond flag new old) (λ l. cond flag (f l) (g l))
+outcome-renders refusals up x y = either (eqb (lowest refusals) 0) (λ h. x (lowest-none 0 refusals up (eqb-true _ 0 h))) y
 
 -- after call c: the rows that it keeps where it is accepted, and all rows where it is refused
 abbrev Steps : Shape → Store → (ℕ → Rows) → Call → Type 0
@@ -40,24 +44,18 @@ module _ {r : Record} {b : Buffers} {of : ℕ → Rows} (x : Renders (r .shape) 
   unfolding does appendOf outcome
   append-step l keys values =
       let held = lengthOf r l in
-      let refusals = storeRefusals r b ++ appendRefusals (r .shape) l held (length keys) (length values) in
-      either (eqb (lowest refusals) 0) _ _
-      (λ h.
-      let z = lowest-none 0 refusals refl (eqb-true _ 0 h) in
+      outcome-renders (storeRefusals r b ++ appendRefusals (r .shape) l held (length keys) (length values)) refl
+      (λ z.
       let w = append-fits (r .shape) (length (b .cells)) (length (b .scales)) l held (length keys) (length values)
       (none-lowest _ (z .0, (z .1 .0, z .1 .1 .1))) in
       append-done x l keys values (w .0 .layer) (w .1))
-      (λ h. x)
+      x
 
   truncate-step : (l n : ℕ) → Steps (r .shape) (store r b) of (truncate l n)
   unfolding does truncateOf outcome
   truncate-step l n =
-      let refusals = storeRefusals r b ++ removeRefusals (r .shape) l in
-      either (eqb (lowest refusals) 0) _ _
-      (λ h.
-      let z = lowest-none 0 refusals refl (eqb-true _ 0 h) in
-      truncate-done x l n (ltb-true l (r .shape .layers) (not-false _ (z .1 .1 .1 .0))))
-      (λ h. x)
+      outcome-renders (storeRefusals r b ++ removeRefusals (r .shape) l) refl
+      (λ z. truncate-done x l n (ltb-true l (r .shape .layers) (not-false _ (z .1 .1 .1 .0)))) x
 
   -- a call that keeps every row
   kept-all : {t : Store} (flag : Bool) → Renders (r .shape) t of → Renders (r .shape) t (λ l. cond flag (of l) (of l))
@@ -75,7 +73,7 @@ module _ {r : Record} {b : Buffers} {of : ℕ → Rows} (x : Renders (r .shape) 
   step-here (advance count) =
       let flag = eqb (lowest (recordRefusals r ++ ((10 when not (leb (seqLen r + count) 4294967295)) ∷ []))) 0 in
       kept-all flag (advanced flag (seqLen r + count))
-  step-here (reads what) = kept-all (eqb (readReply what (store r b)) 0) x
+  step-here (reads reply) = kept-all (eqb (reply (store r b)) 0) x
 
 -- one call
 pub step : {s : Shape} {t : Store} {of : ℕ → Rows} (c : Call) → Renders s t of → Steps s t of c

@@ -2,37 +2,29 @@
 -- It holds since the rows say every length and what stands at every place, and the places make up both buffers.
 use mathlib.Core.Path.{_≡_, sym, ap, _∙_}
 use mathlib.Core.List.{List}
-use Prim.Native.Nat.{ℕ, _*_, _/_, _≤_, _<_}
-use native.Mathlib.Nat.{mul-div-cancel}
+use Prim.Native.Nat.{ℕ, _≤_, _<_}
 use native.Mathlib.Omega.{arith}
 use native.Mathlib.Decide.{decLt}
 use lib.ListN.{length}
-use lib.Seq.{ext-getD}
 use borrow.Author.Tests.{le-ltb}
 use Rattle.shapes.specs.declared.Shape.{Shape}
-use Rattle.shapes.specs.Shape.{bytesOf, wordsOf, width, total}
-use Rattle.shapes.proofs.ShapeLaws.{within-limits, width-in}
+use Rattle.shapes.specs.Shape.{bytesOf, wordsOf, total}
 use Rattle.rows.specs.Row.{rowCells, rowScales}
 use Rattle.layers.proofs.PlaceLaws.{places-same}
 use Rattle.cells.proofs.LentLaws.{buffers-alike}
 use Rattle.store.specs.Record.{lengthOf}
-use Rattle.store.specs.Calls.{Store}
+use Rattle.store.specs.Calls.{Store, store}
+use Rattle.store.proofs.LengthLaws.{same-record}
 use Rattle.undo.specs.Survivors.{Rows}
 use Rattle.undo.specs.Undo.{SameCache}
 use Rattle.undo.proofs.RowLaws.{Holds}
 use Rattle.undo.proofs.NumberLaws.{encoded}
 use Rattle.undo.proofs.StoreLaws.{Renders}
 
--- positions that have as many numbers are as many
-pub same-count : (w n m : ℕ) → 0 < w → n * w ≡ m * w → n ≡ m
-same-count w n m d e = sym (mul-div-cancel n d) ∙ ap (λ (k : ℕ). k / w) e ∙ mul-div-cancel m d
-
 module _ {s : Shape} {t u : Store} {of of′ : ℕ → Rows} (x : Renders s t of) (y : Renders s u of′)
     (same : (l : ℕ) → l < s .layers → of l ≡ of′ l) where
   length-at : (l : ℕ) → Dec (l < s .layers) → lengthOf (t .rec) l ≡ lengthOf (u .rec) l
-  length-at l (yes w) =
-      same-count (width s) _ _ (width-in s (within-limits s (x .shape-in)) .0)
-      (sym (x .layer l .keys-size) ∙ ap (λ (r : Rows). length (r .keys)) (same l w) ∙ y .layer l .keys-size)
+  length-at l (yes w) = sym (x .layer l .count) ∙ ap length (same l w) ∙ y .layer l .count
   length-at l (no w) =
       let e = le-ltb l (s .layers) (omega arith) in
       let a : lengthOf (t .rec) l ≤ 0 = rw e at (x .layer l .span) in
@@ -52,11 +44,10 @@ module _ {s : Shape} {t u : Store} {of of′ : ℕ → Rows} (x : Renders s t of
 
   pub same-rows : SameCache t u
   same-rows =
-      record {
-        same-shape = x .shape-is ∙ sym (y .shape-is);
-        same-lengths = ext-getD 0 (t .rec .lens) (u .rec .lens) (x .lengths-size ∙ sym (y .lengths-size)) (λ l w. same-length l);
-        same-buffers =
-            buffers-alike
-            (same-buffer (rowCells (s .format)) (bytesOf s) _ _ (x .sizes .0) (y .sizes .0) (λ l. x .layer l .cells-held) (λ l. y .layer l .cells-held))
-            (same-buffer (rowScales (s .format)) (wordsOf s) _ _ (x .sizes .1) (y .sizes .1) (λ l. x .layer l .scales-held) (λ l. y .layer l .scales-held));
-      }
+      let a = same-record 0 (x .lengths) (y .lengths) (x .shape-is ∙ sym (y .shape-is)) (λ l w. same-length l) in
+      let c =
+      buffers-alike
+      (same-buffer (rowCells (s .format)) (bytesOf s) _ _ (x .sizes .0) (y .sizes .0) (λ l. x .layer l .cells-held) (λ l. y .layer l .cells-held))
+      (same-buffer (rowScales (s .format)) (wordsOf s) _ _ (x .sizes .1) (y .sizes .1) (λ l. x .layer l .scales-held) (λ l. y .layer l .scales-held))
+      in
+      λ i. store (a i) (c i)

@@ -5,20 +5,16 @@ use Rattle.shapes.specs.declared.Shape.{Shape}
 use Rattle.shapes.specs.Buffers.{Buffers}
 use Rattle.store.specs.Calls.{openOf}
 use Rattle.undo.specs.Sequence.{Call, accepted}
-use Rattle.undo.specs.Survivors.{noRows, oneAppendEach}
+use Rattle.undo.specs.Survivors.{oneAppendEach}
 use Rattle.undo.specs.Undo.{after, surviving, UndoIsReal}
-use Rattle.undo.proofs.StoreLaws.{Renders, opened-left, opened-within, empty-renders}
+use Rattle.undo.proofs.StoreLaws.{Renders, opened-renders}
 use Rattle.undo.proofs.RunLaws.{run-renders}
 use Rattle.undo.proofs.SameRows.{same-rows}
 use Rattle.undo.proofs.AppendLaws.{own-rows, each-accepted}
 
-module _ (s : Shape) (b : Buffers) (opened : openOf s b .reply ≡ 0) where
-  -- a store that was just opened has no rows, and after calls it has those that survive and nothing else
-  opened-renders : Renders s (openOf s b .left) (λ l. noRows)
-  opened-renders = rw (opened-left s b opened) (empty-renders s (opened-within s b opened))
-
-  pub after-renders : (calls : List Call) → Renders s (after s b calls) (surviving s b calls)
-  after-renders calls = run-renders calls opened-renders
+-- after calls a store that was opened has the rows that survive, and nothing else
+pub after-renders : (s : Shape) (b : Buffers) → openOf s b .reply ≡ 0 → (calls : List Call) → Renders s (after s b calls) (surviving s b calls)
+after-renders s b opened calls = run-renders calls (opened-renders s b opened)
 
 -- the theorem: a shape that opens, any memory, any calls
 pub undo-is-real : (s : Shape) (b b′ : Buffers) → openOf s b .reply ≡ 0 → openOf s b′ .reply ≡ 0 → (calls : List Call) → UndoIsReal s b b′ calls
@@ -27,4 +23,4 @@ undo-is-real s b b′ opened opened′ calls =
     let again = oneAppendEach s of in
     let x = after-renders s b opened calls in
     let taken : accepted again (openOf s b′ .left) ≡ again = each-accepted s of x (opened-renders s b′ opened′) in
-    (same-rows x (after-renders s b′ opened′ again) (λ l w. rw taken (sym (own-rows s of l w))), taken)
+    (same-rows x (after-renders s b′ opened′ again) (λ l w. rw taken (sym (own-rows s of x l w))), taken)

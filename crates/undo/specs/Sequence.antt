@@ -3,22 +3,8 @@ use Prim.Native.Nat.{ℕ}
 use mathlib.Core.Bool.{Bool, cond}
 use mathlib.Core.List.{List, [], _∷_}
 use lib.Dec.{eqb}
-use lib.Ieee.{Float}
 use Rattle.replies.specs.Outcome.{Outcome}
-use Rattle.store.specs.Calls.{Store, store, appendOf, truncateOf, advanceOf, cachedLenOf, memoryBytesOf, readOf}
-use Rattle.heads.specs.Calls.{headScoresOf, headSumsOf}
-
--- a call that reads: what it is given beside the store, the output last
-pub data Reading : Type 0 where
-  -- a layer
-  cachedLen : ℕ → Reading
-  memoryBytes : Reading
-  -- a layer, a side, a head, a position
-  readRow : ℕ → ℕ → ℕ → ℕ → List ℕ → Reading
-  -- a layer, a head, the query, the given scale
-  scores : ℕ → ℕ → List Float → Float → List ℕ → Reading
-  -- a layer, a head, the weights
-  sums : ℕ → ℕ → List Float → List ℕ → Reading
+use Rattle.store.specs.Calls.{Store, store, appendOf, truncateOf, advanceOf}
 
 -- any call on an open store
 pub data Call : Type 0 where
@@ -28,15 +14,9 @@ pub data Call : Type 0 where
   truncate : ℕ → ℕ → Call
   -- a count
   advance : ℕ → Call
-  reads : Reading → Call
-
--- the reply of a call that reads
-abbrev pub readReply : Reading → Store → ℕ
-readReply (cachedLen l) t = cachedLenOf (t .rec) l .reply
-readReply memoryBytes t = memoryBytesOf (t .rec) .reply
-readReply (readRow l side h p out) t = readOf (t .rec) (t .lent) l side h p out .reply
-readReply (scores l h query x out) t = headScoresOf (t .rec) (t .lent) l h query x out .reply
-readReply (sums l h weights out) t = headSumsOf (t .rec) (t .lent) l h weights out .reply
+  -- a call that reads, by its reply: any function of the store, such as λ t. readOf (t .rec) (t .lent) l side h p out .reply,
+  -- and likewise by cachedLenOf, memoryBytesOf, headScoresOf and headSumsOf
+  reads : (Store → ℕ) → Call
 
 -- what a call answers and leaves: an advance has no buffers, and reading leaves the store
 unfoldable pub does : Call → Store → Outcome Store
@@ -45,7 +25,7 @@ does (truncate l n) t = truncateOf (t .rec) (t .lent) l n
 does (advance count) t =
     let o = advanceOf (t .rec) count in
     record { reply = o .reply; left = store (o .left) (t .lent) }
-does (reads what) t = record { reply = readReply what t; left = t }
+does (reads reply) t = record { reply = reply t; left = t }
 
 -- calls one after the other, from store t: what they leave, and which of them are accepted
 unfoldable pub run : List Call → Store → Store

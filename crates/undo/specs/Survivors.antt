@@ -3,48 +3,59 @@ use Prim.Native.Nat.{ℕ, _*_}
 use mathlib.Core.Bool.{cond}
 use mathlib.Core.List.{List, [], _∷_, _++_}
 use lib.Dec.{eqb}
-use lib.ListN.{take}
-use Rattle.lists.specs.Chunks.{tab}
+use lib.ListN.{length, getD, take}
+use Rattle.lists.specs.Chunks.{tab, joined, part}
 use Rattle.shapes.specs.declared.Shape.{Shape}
 use Rattle.shapes.specs.Shape.{width}
+use Rattle.cells.specs.Calls.{positions}
 use Rattle.undo.specs.Sequence.{Call, append, truncate, advance, reads}
 
--- keys and values of a layer's positions, as they were appended
-pub record Rows : Type 0 where
+-- one position of a layer: the keys and the values of all its heads, as they were appended
+pub record Position : Type 0 where
   pub keys : List ℕ
   pub values : List ℕ
 
-abbrev pub rows : List ℕ → List ℕ → Rows
-rows k v = record { keys = k; values = v }
+abbrev pub position : List ℕ → List ℕ → Position
+position k v = record { keys = k; values = v }
 
--- more rows at the end, and the first n rows
-abbrev pub joinedRows : Rows → List ℕ → List ℕ → Rows
-joinedRows r keys values = rows (r .keys ++ keys) (r .values ++ values)
+-- a layer's rows, position by position
+abbrev pub Rows : Type 0
+Rows = List Position
 
-abbrev pub first : Shape → ℕ → List ℕ → List ℕ
-first s n numbers = take (n * width s) numbers
+abbrev pub noRows : Rows
+noRows = []
 
-abbrev pub firstRows : Shape → ℕ → Rows → Rows
-firstRows s n r = rows (first s n (r .keys)) (first s n (r .values))
+-- appended keys and values, cut into their positions
+abbrev pub rowsOf : Shape → List ℕ → List ℕ → Rows
+rowsOf s keys values =
+    let w = width s in
+    tab (positions s (length keys)) (λ p. position (part (p * w) w keys) (part (p * w) w values))
+
+-- position p, and the keys and the values of all positions, joined again
+abbrev pub positionAt : Rows → ℕ → Position
+positionAt r p = getD r p (position [] [])
+
+abbrev pub keysOf : Rows → List ℕ
+keysOf r = joined (length r) (λ p. positionAt r p .keys)
+
+abbrev pub valuesOf : Rows → List ℕ
+valuesOf r = joined (length r) (λ p. positionAt r p .values)
 
 -- an append to layer l adds its rows at the end, a truncation of layer l to n keeps the first n; every other call keeps all
 abbrev pub kept : Shape → ℕ → Rows → Call → Rows
-kept s l r (append m keys values) = cond (eqb m l) (joinedRows r keys values) r
-kept s l r (truncate m n) = cond (eqb m l) (firstRows s n r) r
+kept s l r (append m keys values) = cond (eqb m l) (r ++ rowsOf s keys values) r
+kept s l r (truncate m n) = cond (eqb m l) (take n r) r
 kept s l r (advance count) = r
-kept s l r (reads what) = r
+kept s l r (reads reply) = r
 
 -- the rows of layer l after calls that were all accepted, from rows r, and from none
 unfoldable pub keptFrom : Shape → ℕ → Rows → List Call → Rows
 keptFrom s l r [] = r
 keptFrom s l r (c ∷ calls) = keptFrom s l (kept s l r c) calls
 
-abbrev pub noRows : Rows
-noRows = rows [] []
-
 abbrev pub survivors : Shape → List Call → ℕ → Rows
 survivors s calls l = keptFrom s l noRows calls
 
 -- each layer's rows appended in one call
 abbrev pub oneAppendEach : Shape → (ℕ → Rows) → List Call
-oneAppendEach s of = tab (s .layers) (λ l. append l (of l .keys) (of l .values))
+oneAppendEach s of = tab (s .layers) (λ l. append l (keysOf (of l)) (valuesOf (of l)))

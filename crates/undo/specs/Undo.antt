@@ -3,19 +3,20 @@
 use mathlib.Core.Path.{_≡_}
 use mathlib.Core.List.{List}
 use Prim.Native.Nat.{ℕ}
-use lib.Ieee.{Float}
 use Rattle.shapes.specs.declared.Shape.{Shape}
 use Rattle.shapes.specs.Buffers.{Buffers}
-use Rattle.store.specs.Calls.{Store, openOf, cachedLenOf, memoryBytesOf, readOf}
-use Rattle.heads.specs.Calls.{headScoresOf, headSumsOf}
+use Rattle.store.specs.Record.{withSeqLen}
+use Rattle.store.specs.Calls.{Store, store, openOf}
 use Rattle.undo.specs.Sequence.{Call, run, accepted}
 use Rattle.undo.specs.Survivors.{Rows, survivors, oneAppendEach}
 
--- both whole buffers, all lengths and the shape are the same; the sequence number may differ
-pub record SameCache (t u : Store) : Type 0 where
-  pub same-shape : t .rec .shape ≡ u .rec .shape
-  pub same-lengths : t .rec .lens ≡ u .rec .lens
-  pub same-buffers : t .lent ≡ u .lent
+-- what a store holds: all of it but the sequence number
+abbrev pub cacheOf : Store → Store
+cacheOf t = store (withSeqLen (t .rec) 0) (t .lent)
+
+-- the shape, all lengths and both whole buffers are the same
+abbrev pub SameCache : Store → Store → Type 0
+SameCache t u = cacheOf t ≡ cacheOf u
 
 -- a store of shape s that was opened in memory b, after calls, and what survives of them
 abbrev pub after : Shape → Buffers → List Call → Store
@@ -30,12 +31,6 @@ UndoIsReal s b b′ calls =
     let again = oneAppendEach s (surviving s b calls) in
     SameCache (after s b calls) (after s b′ again) × (accepted again (openOf s b′ .left) ≡ again)
 
--- every call that reads answers the same
-pub record SameAnswers (t u : Store) : Type 0 where
-  pub same-length : (l : ℕ) → cachedLenOf (t .rec) l ≡ cachedLenOf (u .rec) l
-  pub same-bytes : memoryBytesOf (t .rec) ≡ memoryBytesOf (u .rec)
-  pub same-row : (l side h p : ℕ) (out : List ℕ) → readOf (t .rec) (t .lent) l side h p out ≡ readOf (u .rec) (u .lent) l side h p out
-  pub same-scores : (l h : ℕ) (query : List Float) (x : Float) (out : List ℕ)
-      → headScoresOf (t .rec) (t .lent) l h query x out ≡ headScoresOf (u .rec) (u .lent) l h query x out
-  pub same-sums : (l h : ℕ) (weights : List Float) (out : List ℕ)
-      → headSumsOf (t .rec) (t .lent) l h weights out ≡ headSumsOf (u .rec) (u .lent) l h weights out
+-- whatever goes by what a store holds answers the same
+abbrev pub SameAnswers : Store → Store → Type 1
+SameAnswers t u = (A : Type 0) (answer : Store → A) → answer (cacheOf t) ≡ answer (cacheOf u)
