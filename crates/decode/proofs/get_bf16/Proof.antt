@@ -10,9 +10,9 @@ use Rattle.lists.specs.Chunks.{tab, part}
 use Rattle.lists.proofs.Tab.{tab-set, tab-done}
 use Rattle.numbers.specs.Word.{fromBf16}
 use Rattle.lists.specs.Bytes.{fromLittle}
 use Rattle.rows.specs.Row.{bf16Numbers}
-use Rattle.rows.proofs.get_bf16.Statement.{statement}
-use Rattle.rows.proofs.get_bf16.Tie as tie
+use Rattle.decode.proofs.get_bf16.Statement.{statement}
+use Rattle.decode.proofs.get_bf16.Tie as tie
 
 abbrev Inv-loop : tie.InvT-loop
 Inv-loop cells out₀ d₀ out d = (d ≤ length out₀) × (out ≡ tab d (λ i. fromBf16 (fromLittle (part (i * 2) 2 cells))) ++ drop d out₀) × (length out ≡ length out₀)

@@ -7,10 +7,10 @@ use lib.ListN.{length, drop}
 use borrow.Author.Needs.{needs}
 use Rattle.lists.specs.Chunks.{tab}
 use Rattle.lists.proofs.Tab.{tab-set, tab-done}
 use Rattle.rows.specs.Row.{f32At, f32Numbers}
-use Rattle.rows.proofs.RowLaws.{word-lent}
-use Rattle.rows.proofs.get_f32.Statement.{statement}
-use Rattle.rows.proofs.get_f32.Tie as tie
+use Rattle.decode.proofs.DecodeLaws.{word-lent}
+use Rattle.decode.proofs.get_f32.Statement.{statement}
+use Rattle.decode.proofs.get_f32.Tie as tie
 
 abbrev Inv-loop : tie.InvT-loop
 Inv-loop cells out₀ d₀ out d = (d ≤ length out₀) × (out ≡ tab d (f32At cells) ++ drop d out₀) × (length out ≡ length out₀)

@@ -11,10 +11,10 @@ use Rattle.lists.proofs.Part.{part-length}
 use Rattle.numbers.specs.Word.{float}
 use Rattle.groups.specs.Group.{unpacked}
 use Rattle.groups.proofs.GroupLaws.{unpacked-length}
 use Rattle.rows.specs.Row.{int4Numbers}
-use Rattle.rows.proofs.RowLaws.{unpack-all}
-use Rattle.rows.proofs.get_int4.Statement.{statement}
-use Rattle.rows.proofs.get_int4.Tie as tie
+use Rattle.decode.proofs.DecodeLaws.{unpack-all}
+use Rattle.decode.proofs.get_int4.Statement.{statement}
+use Rattle.decode.proofs.get_int4.Tie as tie
 
 abbrev Inv-loop : tie.InvT-loop
 Inv-loop cells scales out₀ g₀ out g = Passed 32 (length scales) (λ i x. unpacked (part (i * 16) 16 cells) (float (getD scales i 0))) out₀ g out

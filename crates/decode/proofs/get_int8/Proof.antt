@@ -9,9 +9,9 @@ use Rattle.lists.specs.Chunks.{tab}
 use Rattle.lists.proofs.Tab.{tab-set, tab-done}
 use Rattle.numbers.specs.Word.{word}
 use Rattle.numbers.specs.Code.{read8}
 use Rattle.rows.specs.Row.{int8Numbers}
-use Rattle.rows.proofs.get_int8.Statement.{statement}
-use Rattle.rows.proofs.get_int8.Tie as tie
+use Rattle.decode.proofs.get_int8.Statement.{statement}
+use Rattle.decode.proofs.get_int8.Tie as tie
 
 abbrev Inv-loop : tie.InvT-loop
 Inv-loop cells scales out₀ scale d₀ out d = (d ≤ length out₀) × (out ≡ tab d (λ i. word (read8 (getD cells i 0) scale)) ++ drop d out₀) × (length out ≡ length out₀)

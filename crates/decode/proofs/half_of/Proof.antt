@@ -2,8 +2,8 @@
 use native.Mathlib.Omega.{arith}
 use borrow.Author.Needs.{needs}
 use Rattle.lists.proofs.Bytes.{from-byte, from-end}
-use Rattle.rows.proofs.half_of.Statement.{statement}
-use Rattle.rows.proofs.half_of.Tie as tie
+use Rattle.decode.proofs.half_of.Statement.{statement}
+use Rattle.decode.proofs.half_of.Tie as tie
 
 shared-slice-read-half-from : tie.Need-shared-slice-read-half-from
 shared-slice-read-half-from c = search needs

@@ -4,8 +4,8 @@ use borrow.Author.Needs.{needs}
 use borrow.Author.Tests.{eq-eqb, ne-eqb}
 use Rattle.lists.specs.Bytes.{fromLittle}
 use Rattle.lists.proofs.Bytes.{from-byte, from-end}
-use Rattle.rows.proofs.word_of.Statement.{statement}
-use Rattle.rows.proofs.word_of.Tie as tie
+use Rattle.decode.proofs.word_of.Statement.{statement}
+use Rattle.decode.proofs.word_of.Tie as tie
 
 returns : tie.Need-returns
 returns c = rw (ne-eqb _ 4 (c .if1 .taken))

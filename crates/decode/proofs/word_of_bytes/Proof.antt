@@ -2,8 +2,8 @@
 use native.Mathlib.Omega.{arith}
 use borrow.Author.Needs.{needs}
 use Rattle.lists.specs.Bytes.{fromLittle}
-use Rattle.rows.proofs.word_of_bytes.Statement.{statement}
-use Rattle.rows.proofs.word_of_bytes.Tie as tie
+use Rattle.decode.proofs.word_of_bytes.Statement.{statement}
+use Rattle.decode.proofs.word_of_bytes.Tie as tie
 
 mul-result : tie.Need-mul-result
 mul-result c = search needs

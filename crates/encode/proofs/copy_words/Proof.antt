@@ -7,8 +7,8 @@ use lib.ListN.{length, getD, drop}
 use borrow.Author.Needs.{needs}
 use Rattle.lists.specs.Chunks.{tab}
 use Rattle.lists.proofs.Tab.{tab-of, tab-set, tab-done}
-use Rattle.rows.proofs.copy_words.Statement.{statement}
-use Rattle.rows.proofs.copy_words.Tie as tie
+use Rattle.encode.proofs.copy_words.Statement.{statement}
+use Rattle.encode.proofs.copy_words.Tie as tie
 
 abbrev Inv-loop : tie.InvT-loop
 Inv-loop run words₀ i₀ words i =

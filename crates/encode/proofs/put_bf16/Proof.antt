@@ -8,10 +8,10 @@ use Rattle.lists.specs.Chunks.{each}
 use Rattle.lists.proofs.Loop.{Passed, chunk-turn, over, over-done}
 use Rattle.numbers.specs.Word.{bf16}
 use Rattle.lists.specs.Bytes.{little}
 use Rattle.rows.specs.Row.{bf16Cells}
 use Rattle.lists.proofs.Bytes.{little-length}
-use Rattle.rows.proofs.put_bf16.Statement.{statement}
-use Rattle.rows.proofs.put_bf16.Tie as tie
+use Rattle.encode.proofs.put_bf16.Statement.{statement}
+use Rattle.encode.proofs.put_bf16.Tie as tie
 
 abbrev Inv-loop : tie.InvT-loop
 Inv-loop run cells₀ d₀ cells d = Passed 2 (length run) (λ i x. little 2 (bf16 (getD run i 0))) cells₀ d cells

@@ -3,10 +3,10 @@ use mathlib.Core.Path.{ap, _∙_}
 use native.Mathlib.Omega.{arith}
 use lib.ListN.{length, length-append}
 use borrow.Author.Needs.{needs}
 use Rattle.rows.specs.Row.{f32Cells}
-use Rattle.rows.proofs.RowLaws.{first-lent}
-use Rattle.rows.proofs.put_f32.Statement.{statement}
-use Rattle.rows.proofs.put_f32.Tie as tie
+use Rattle.encode.proofs.EncodeLaws.{first-lent}
+use Rattle.encode.proofs.put_f32.Statement.{statement}
+use Rattle.encode.proofs.put_f32.Tie as tie
 
 no-words-requires : tie.Need-no-words-requires
 no-words-requires c κs = search needs

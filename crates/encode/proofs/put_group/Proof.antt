@@ -1,9 +1,9 @@
 -- The group is packed under the scale that is answered.
 use mathlib.Core.Path.{_∙_}
 use borrow.Author.Needs.{needs}
-use Rattle.rows.proofs.RowLaws.{pack-all}
-use Rattle.rows.proofs.put_group.Statement.{statement}
-use Rattle.rows.proofs.put_group.Tie as tie
+use Rattle.encode.proofs.EncodeLaws.{pack-all}
+use Rattle.encode.proofs.put_group.Statement.{statement}
+use Rattle.encode.proofs.put_group.Tie as tie
 
 compute-int4-scale-requires : tie.Need-compute-int4-scale-requires
 compute-int4-scale-requires c κs = search needs

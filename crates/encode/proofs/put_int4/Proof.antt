@@ -12,9 +12,9 @@ use Rattle.lists.proofs.Tab.{tab-set, tab-done}
 use Rattle.numbers.specs.Word.{word}
 use Rattle.groups.specs.Group.{packed}
 use Rattle.groups.proofs.GroupLaws.{packed-length}
 use Rattle.rows.specs.Row.{group, groupScale, int4Cells, int4Scales}
-use Rattle.rows.proofs.put_int4.Statement.{statement}
-use Rattle.rows.proofs.put_int4.Tie as tie
+use Rattle.encode.proofs.put_int4.Statement.{statement}
+use Rattle.encode.proofs.put_int4.Tie as tie
 
 abbrev Inv-loop : tie.InvT-loop
 Inv-loop run cells₀ scales₀ g₀ cells scales g =

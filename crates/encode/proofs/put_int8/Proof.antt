@@ -9,9 +9,9 @@ use borrow.Author.Needs.{needs}
 use Rattle.lists.specs.Chunks.{tab}
 use Rattle.lists.proofs.Tab.{tab-set, tab-done}
 use Rattle.numbers.specs.Code.{code8}
 use Rattle.rows.specs.Row.{int8Cells, int8Scales}
-use Rattle.rows.proofs.put_int8.Statement.{statement}
-use Rattle.rows.proofs.put_int8.Tie as tie
+use Rattle.encode.proofs.put_int8.Statement.{statement}
+use Rattle.encode.proofs.put_int8.Tie as tie
 
 abbrev Inv-loop : tie.InvT-loop
 Inv-loop run cells₀ scales scale d₀ cells d = (d ≤ length run) × (cells ≡ tab d (λ i. code8 (getD run i 0) scale) ++ drop d cells₀) × (length cells ≡ length cells₀)

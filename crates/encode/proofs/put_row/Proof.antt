@@ -7,16 +7,17 @@ use native.Mathlib.Omega.{arith}
 use borrow.Author.Needs.{needs}
 use lib.ListN.{length}
 use Rattle.replies.proofs.Flags.{passed, failed}
-use Rattle.shapes.specs.Shape.{ofFormat}
-use Rattle.rows.specs.Row.{rowCells, rowScales}
+use Rattle.shapes.specs.Format.{layouts}
+use Rattle.shapes.proofs.FormatLaws.{known-below}
+use Rattle.rows.specs.Row.{codings, rowCells, rowScales}
 use Rattle.shapes.specs.Buffers.{buffers}
 use Rattle.replies.specs.Tried.{tells}
-use Rattle.rows.specs.Calls.{putRowOf}
+use Rattle.encode.specs.Encode.{putRowOf}
 use Rattle.replies.proofs.Tried.{tried-done}
 use Rattle.rows.proofs.FitLaws.{RowFits, fits-facts, f32-fits, bf16-fits, int8-fits, int4-fits}
-use Rattle.rows.proofs.RowLaws.{empty}
-use Rattle.rows.proofs.put_row.Statement.{statement}
-use Rattle.rows.proofs.put_row.Tie as tie
+use Rattle.encode.proofs.EncodeLaws.{empty}
+use Rattle.encode.proofs.put_row.Statement.{statement}
+use Rattle.encode.proofs.put_row.Tie as tie
 
 rows-fit-requires : tie.Need-rows-fit-requires
 rows-fit-requires c κs = search needs
@@ -49,18 +50,14 @@ put-bf16-requires c κs = bf16-fits (rw (c .before .match .keys2) at (fits (c .b
 put-int8-requires : tie.Need-put-int8-requires
 put-int8-requires c κs = int8-fits (rw (c .before .before .match .keys3) at (fits (c .before .before .before)))
 
--- the last arm's format is 3
-last : (c : tie.At-match-rest) → c .before .before .before .before .before .before .args .format ≡ 3
-last c = let f = fits (c .before) in omega arith
-
 put-int4-requires : tie.Need-put-int4-requires
-put-int4-requires c κs = int4-fits (rw (last (c .before .before)) at (fits (c .before .before .before)))
+put-int4-requires c κs = int4-fits (rw (c .before .before .match .keys4) at (fits (c .before .before .before)))
 
 same-length : tie.Need-same-length
 same-length c = search needs
 
 returns-2 : tie.Need-returns-2
-unfolding rowCells rowScales ofFormat
+unfolding rowCells rowScales codings
 returns-2 c =
     let k = c .before .before .before .before in
     let e = k .match .keys1 in
@@ -70,7 +67,7 @@ same-length-2 : tie.Need-same-length-2
 same-length-2 c = search needs
 
 returns-3 : tie.Need-returns-3
-unfolding rowCells rowScales ofFormat
+unfolding rowCells rowScales codings
 returns-3 c =
     let k = c .before .before .before .before in
     let e = k .match .keys2 in
@@ -83,7 +80,7 @@ same-length-4 : tie.Need-same-length-4
 same-length-4 c = search needs
 
 returns-4 : tie.Need-returns-4
-unfolding rowCells rowScales ofFormat
+unfolding rowCells rowScales codings
 returns-4 c =
     let k = c .before .before .before .before .before .before .before in
     let y = c .before .before .before .before .put-int8 .ensures in
@@ -96,11 +93,16 @@ same-length-6 : tie.Need-same-length-6
 same-length-6 c = search needs
 
 returns-5 : tie.Need-returns-5
-unfolding rowCells rowScales ofFormat
+unfolding rowCells rowScales codings
 returns-5 c =
     let k = c .before .before .before .before .before .before .before in
     let y = c .before .before .before .before .put-int4 .ensures in
-    done (k .before) (rw (last k) (y .0)) (rw (last k) (y .1))
+    done (k .before) (rw (k .match .keys4) (y .0)) (rw (k .match .keys4) (y .1))
+
+-- a format that is not known was refused
+returns-6 : tie.Need-returns-6
+unfolding layouts
+returns-6 c = let k = known-below _ (fits (c .before) .known) in absurd (omega arith)
 
 pub put-row-spec : {M : Type 1} → statement M
 put-row-spec =
@@ -121,4 +123,5 @@ put-row-spec =
     returns-4
     same-length-5
     same-length-6
-    returns-5)
+    returns-5
+    returns-6)

@@ -7,10 +7,10 @@ use borrow.Author.Needs.{needs}
 use Rattle.lists.specs.Chunks.{each}
 use Rattle.lists.proofs.Loop.{Passed, chunk-turn, over, over-done}
 use Rattle.lists.specs.Bytes.{little}
 use Rattle.rows.specs.Row.{f32Cells}
 use Rattle.lists.proofs.Bytes.{little-length}
-use Rattle.rows.proofs.put_words.Statement.{statement}
-use Rattle.rows.proofs.put_words.Tie as tie
+use Rattle.encode.proofs.put_words.Statement.{statement}
+use Rattle.encode.proofs.put_words.Tie as tie
 
 abbrev Inv-loop : tie.InvT-loop
 Inv-loop words cells₀ d₀ cells d = Passed 4 (length words) (λ i x. little 4 (getD words i 0)) cells₀ d cells
