@@ -16,7 +16,7 @@ use Rattle.shapes.specs.Buffers.{buffers}
 use Rattle.rows.proofs.FitLaws.{RowsFit, fits-facts, facts-fit}
 use Rattle.attention.specs.Order.{rowDot, scoresOf}
 use Rattle.attention.specs.Block.{cellsOf, scalesOf, blockScores}
-use Rattle.attention.specs.Fits.{Rows}
+use Rattle.attention.specs.Fits.{ScoredRows}
 
 -- where it lies, and how long it is, of cells or of scale words
 part-in : (b p n : ℕ) {m r size : ℕ} → r ≡ b → size ≡ m * b → p + n ≤ m → p * r + n * r ≤ size
@@ -31,13 +31,13 @@ pub rows-inside : (p n : ℕ) {format d m cells scales r v : ℕ} → RowsFit fo
 rows-inside p n k e q h = (part-in _ p n e (k .cell-bytes) h, part-in _ p n q (k .scale-words) h)
 
 -- n rows of m are a block of their own
-pub some-rows : (format d m cells scales n : ℕ) {x y : ℕ} → Rows format d m cells scales → n ≤ m → x ≡ n * cellBytes format d → y ≡ n * scaleWords format d
-    → Rows format d n x y
+pub some-rows : (format d m cells scales n : ℕ) {x y : ℕ} → ScoredRows format d m cells scales → n ≤ m → x ≡ n * cellBytes format d → y ≡ n * scaleWords format d
+    → ScoredRows format d n x y
 some-rows format d m cells scales n h b e q =
     let k = fits-facts (h .1) in
     (h .0, facts-fit (record { known = k .known; small = k .small; few = omega (arith, k .few); whole = k .whole; cell-bytes = e; scale-words = q }))
 
-module _ (format d m : ℕ) (cells scales : List ℕ) (h : Rows format d m (length cells) (length scales)) (p n : ℕ) (b : p + n ≤ m) where
+module _ (format d m : ℕ) (cells scales : List ℕ) (h : ScoredRows format d m (length cells) (length scales)) (p n : ℕ) (b : p + n ≤ m) where
   -- it lies in both
   pub part-inside : {r v : ℕ} → r ≡ cellBytes format d → v ≡ scaleWords format d
       → (p * r + n * r ≤ length cells) × (p * v + n * v ≤ length scales)
@@ -45,7 +45,7 @@ module _ (format d m : ℕ) (cells scales : List ℕ) (h : Rows format d m (leng
 
   -- it is a block of n rows
   pub part-rows : {k r v : ℕ} {x y : List ℕ} → r ≡ cellBytes format d → v ≡ scaleWords format d
-      → k ≡ n → x ≡ part (p * r) (n * r) cells → y ≡ part (p * v) (n * v) scales → Rows format d k (length x) (length y)
+      → k ≡ n → x ≡ part (p * r) (n * r) cells → y ≡ part (p * v) (n * v) scales → ScoredRows format d k (length x) (length y)
   part-rows e q o c w =
       let k = fits-facts (h .1) in
       rw o

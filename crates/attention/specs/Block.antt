@@ -9,7 +9,7 @@ use Rattle.lists.specs.Chunks.{part}
 use Rattle.shapes.specs.Shape.{cellBytes, scaleWords}
 use Rattle.shapes.specs.Buffers.{Buffers}
 use Rattle.replies.specs.Tried.{Tried, tried}
-use Rattle.rows.specs.Calls.{rowsFit}
+use Rattle.rows.specs.Fit.{rowsFit}
 use Rattle.attention.specs.Order.{hasScores, rowDot, rowTerm, scoresOf, sumsOf}
 
 -- the cells and the scale words of position p, where a row has d numbers

@@ -2,12 +2,12 @@
 use mathlib.Core.Path.{_≡_}
 use mathlib.Core.Bool.{true}
 use Prim.Native.Nat.{ℕ, _*_}
-use Rattle.rows.specs.Calls.{rowsFit}
+use Rattle.rows.specs.Fit.{rowsFit}
 use Rattle.attention.specs.Order.{hasScores}
 
 -- m rows of d numbers, in a format that has scores
-abbrev pub Rows : ℕ → ℕ → ℕ → ℕ → ℕ → Type 0
-Rows format d m cells scales = (hasScores format ≡ true) × (rowsFit format d m cells scales ≡ true)
+abbrev pub ScoredRows : ℕ → ℕ → ℕ → ℕ → ℕ → Type 0
+ScoredRows format d m cells scales = (hasScores format ≡ true) × (rowsFit format d m cells scales ≡ true)
 
 -- a row of d numbers in F32, and in INT4
 abbrev pub IsF32 : ℕ → ℕ → Type 0

@@ -1,9 +1,9 @@
 -- Scores and weighted sums of rows: the paper's section Order of float operations.
 -- Each addition and each multiplication is one of IEEE 754 binary32, rounded once.
 use Prim.Native.Nat.{ℕ, _+_, _-_, _*_, _/_, _%_}
-use mathlib.Core.Bool.{Bool, cond, _||_}
-use mathlib.Core.List.{List}
-use lib.Dec.{eqb, ltb}
+use mathlib.Core.Bool.{Bool, true, false, cond}
+use mathlib.Core.List.{List, [], _∷_}
+use lib.Dec.{ltb}
 use lib.ListN.{length, getD}
 use lib.Ieee.{Float, nan, binary32, add, mul}
 use Rattle.lists.specs.Chunks.{tab, turns, part}
@@ -53,15 +53,37 @@ abbrev pub int4Term : Float → List ℕ → List ℕ → ℕ → Float
 int4Term weight cells scales i =
     mul binary32 (mul binary32 weight (float (getD scales (i / 32) 0))) (groupCode (part (i / 32 * 16) 16 cells) (i % 32))
 
--- the formats that have scores and sums, F32 and INT4
+-- whether a format has scores and sums; a row's dot with a query, and what it adds to place i under a weight
+pub record Scoring : Type 0 where
+  pub scored : Bool
+  pub dot : List Float → List ℕ → List ℕ → Float
+  pub term : Float → List ℕ → List ℕ → ℕ → Float
+
+abbrev pub f32Scoring : Scoring
+f32Scoring = record { scored = true; dot = λ query cells scales. f32Dot query cells; term = λ weight cells scales. f32Term weight cells }
+
+abbrev pub int4Scoring : Scoring
+int4Scoring = record { scored = true; dot = int4Dot; term = int4Term }
+
+-- of a format that has none, each is 0.0
+abbrev pub noScoring : Scoring
+noScoring = record { scored = false; dot = λ query cells scales. float 0; term = λ weight cells scales i. float 0 }
+
+-- the table: a format's number is its place; BF16 and INT8 have none
+unfoldable pub scorings : List Scoring
+scorings = f32Scoring ∷ noScoring ∷ noScoring ∷ int4Scoring ∷ []
+
+abbrev pub scoringOf : ℕ → Scoring
+scoringOf format = getD scorings format noScoring
+
 unfoldable pub hasScores : ℕ → Bool
-hasScores format = eqb format 0 || eqb format 3
+hasScores format = scoringOf format .scored
 
 unfoldable pub rowDot : ℕ → List Float → List ℕ → List ℕ → Float
-rowDot format query cells scales = cond (eqb format 0) (f32Dot query cells) (int4Dot query cells scales)
+rowDot format = scoringOf format .dot
 
 unfoldable pub rowTerm : ℕ → Float → List ℕ → List ℕ → ℕ → Float
-rowTerm format weight cells scales i = cond (eqb format 0) (f32Term weight cells i) (int4Term weight cells scales i)
+rowTerm format = scoringOf format .term
 
 -- m scores, as words: the dot of each position times the given scale
 unfoldable pub scoresOf : ℕ → (ℕ → Float) → Float → List ℕ

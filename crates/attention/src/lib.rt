@@ -8,15 +8,18 @@ ghost use Rattle.attention.specs.Block.{blockFits};
 pub fn has_scores(format: u32) -> bool
     ensures { λ r. ⌜ r ≡ hasScores format ⌝ }
 {
-    if format == 0 { true } else { format == 3 }
+    match format {
+        0 => true,
+        1 => false,
+        2 => false,
+        3 => true,
+        _ => false,
+    }
 }
 
 // Whether a format has scores and the lengths are those of `m` rows of `d` numbers.
 pub fn block_fits(format: u32, d: usize, m: usize, cells: usize, scales: usize) -> bool
     ensures { λ r. ⌜ r ≡ blockFits format d m cells scales ⌝ }
 {
-    if !has_scores(format) {
-        return false;
-    }
-    rows_fit(format, d, m, cells, scales)
+    has_scores(format) & rows_fit(format, d, m, cells, scales)
 }

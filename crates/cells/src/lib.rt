@@ -1,11 +1,11 @@
 // Cells: rows of numbers in both buffers, appended, removed and read. The caller says how many positions a layer has.
+use decode::get_row;
 use layers::clear_layer;
 use layers::place_of;
 use layers::zero_cells;
 use layers::zero_words;
 use replies::Reply;
 use replies::number;
-use rows::get_row;
 use shapes::Shape;
 use shapes::cell_bytes;
 use shapes::room_reply;

@@ -6,8 +6,9 @@ use Rattle.lists.specs.Bytes.{little, fromLittle}
 use Rattle.numbers.specs.Scale.{magnitude, larger, largestFrom, largest, scaleOf}
 use Rattle.numbers.specs.Code.{nearestWhole, clamped, code8}
 use Rattle.replies.specs.Outcome.{lowest, outcome}
-use Rattle.shapes.specs.Shape.{ofFormat, cellBytes, scaleWords, total, limits, within, exact, needOf}
-use Rattle.rows.specs.Row.{int8Cells, int8Scales, rowCells, rowScales}
+use Rattle.shapes.specs.Format.{layouts, known, wholeGroups}
+use Rattle.shapes.specs.Shape.{cellBytes, scaleWords, total, limits, within, exact, needOf}
+use Rattle.rows.specs.Row.{codings, int8Cells, int8Scales, rowCells, rowScales}
 use Rattle.layers.specs.Layer.{put, putSide, putLayer, written}
 use Rattle.cells.specs.Calls.{appended, removed}
 use Rattle.store.specs.Record.{goodLengths, byteCount}
@@ -20,5 +21,5 @@ use Rattle.replay.specs.Transcript.{walkFrom, playOf, transcript}
 use Rattle.examples.specs.WholeCase.{file, lines}
 
 pub whole-case : transcript file ≡ lines
-unfolding file lines tab joined at each turns some little fromLittle magnitude larger largestFrom largest scaleOf nearestWhole clamped code8 lowest outcome ofFormat cellBytes scaleWords total limits within exact needOf int8Cells int8Scales rowCells rowScales put putSide putLayer written appended removed goodLengths byteCount openOf appendOf truncateOf memoryBytesOf numberAt words openAt appendAt truncateAt advanceAt kindAt entryAt openIn appendIn truncateIn spelled answerText spaced reportText reportOf stepOf walkFrom playOf lt eq div mul ofBits toBits ofInt
+unfolding file lines tab joined at each turns some little fromLittle magnitude larger largestFrom largest scaleOf nearestWhole clamped code8 lowest outcome layouts known wholeGroups codings cellBytes scaleWords total limits within exact needOf int8Cells int8Scales rowCells rowScales put putSide putLayer written appended removed goodLengths byteCount openOf appendOf truncateOf memoryBytesOf numberAt words openAt appendAt truncateAt advanceAt kindAt entryAt openIn appendIn truncateIn spelled answerText spaced reportText reportOf stepOf walkFrom playOf lt eq div mul ofBits toBits ofInt
 whole-case = refl

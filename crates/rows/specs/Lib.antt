@@ -1,2 +1,2 @@
-pub mod Calls
+pub mod Fit
 pub mod Row

@@ -2,7 +2,7 @@
 -- The paper's sections Shape and room, for the bytes, and Codes.
 use Prim.Native.Nat.{ℕ, _*_, _/_}
 use mathlib.Core.List.{List, [], _∷_}
-use lib.ListN.{length, getD}
+use lib.ListN.{length, getD, replicate}
 use lib.Ieee.{Float}
 use Rattle.lists.specs.Bytes.{little, fromLittle}
 use Rattle.lists.specs.Chunks.{tab, joined, part}
@@ -10,7 +10,6 @@ use Rattle.numbers.specs.Word.{float, word, bf16, fromBf16}
 use Rattle.numbers.specs.Scale.{scaleOf}
 use Rattle.numbers.specs.Code.{code8, read8}
 use Rattle.groups.specs.Group.{packed, unpacked}
-use Rattle.shapes.specs.Shape.{ofFormat}
 
 -- F32: the bits of each number
 unfoldable pub f32Cells : List ℕ → List ℕ
@@ -56,13 +55,41 @@ int4Scales run = tab (length run / 32) (λ g. word (groupScale g run))
 unfoldable pub int4Numbers : ℕ → List ℕ → List ℕ → List ℕ
 int4Numbers n cells scales = joined (n / 32) (λ g. unpacked (part (g * 16) 16 cells) (float (getD scales g 0)))
 
+-- how a format writes a run, as cells and as scale words, and reads n numbers from them
+pub record Coding : Type 0 where
+  pub cells : List ℕ → List ℕ
+  pub scales : List ℕ → List ℕ
+  pub numbers : ℕ → List ℕ → List ℕ → List ℕ
+
+abbrev pub f32Coding : Coding
+f32Coding = record { cells = f32Cells; scales = λ run. []; numbers = λ n cells scales. f32Numbers n cells }
+
+abbrev pub bf16Coding : Coding
+bf16Coding = record { cells = bf16Cells; scales = λ run. []; numbers = λ n cells scales. bf16Numbers n cells }
+
+abbrev pub int8Coding : Coding
+int8Coding = record { cells = int8Cells; scales = int8Scales; numbers = int8Numbers }
+
+abbrev pub int4Coding : Coding
+int4Coding = record { cells = int4Cells; scales = int4Scales; numbers = int4Numbers }
+
+-- the table: a format's number is its place
+unfoldable pub codings : List Coding
+codings = f32Coding ∷ bf16Coding ∷ int8Coding ∷ int4Coding ∷ []
+
+-- of a format that is not known, nothing is written, and zeros are read
+abbrev pub noCoding : Coding
+noCoding = record { cells = λ run. []; scales = λ run. []; numbers = λ n cells scales. replicate n 0 }
+
+abbrev pub codingOf : ℕ → Coding
+codingOf format = getD codings format noCoding
+
 -- the cells and scale words of a run, and the n numbers that cells and scale words read as
 unfoldable pub rowCells : ℕ → List ℕ → List ℕ
-rowCells format run = ofFormat format (f32Cells run) (bf16Cells run) (int8Cells run) (int4Cells run)
+rowCells format = codingOf format .cells
 
 unfoldable pub rowScales : ℕ → List ℕ → List ℕ
-rowScales format run = ofFormat format [] [] (int8Scales run) (int4Scales run)
+rowScales format = codingOf format .scales
 
 unfoldable pub rowNumbers : ℕ → ℕ → List ℕ → List ℕ → List ℕ
-rowNumbers format n cells scales =
-    ofFormat format (f32Numbers n cells) (bf16Numbers n cells) (int8Numbers n cells scales) (int4Numbers n cells scales)
+rowNumbers format = codingOf format .numbers

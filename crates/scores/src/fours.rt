@@ -13,7 +13,7 @@ ghost use Rattle.rows.specs.Row.{f32At};
 ghost use Rattle.shapes.specs.Buffers.{buffers};
 ghost use Rattle.attention.specs.Order.{f32Dot};
 ghost use Rattle.attention.specs.Block.{blockScores};
-ghost use Rattle.attention.specs.Fits.{Rows, IsF32};
+ghost use Rattle.attention.specs.Fits.{ScoredRows, IsF32};
 
 // A number for each of four rows.
 pub(crate) struct Four {
@@ -31,7 +31,7 @@ pub(crate) fn score_four(
     cells: &[u8],
     scales: &[u32],
 ) -> Four
-    requires { ⌜ Rows format (length (now query)) 4 (length (now cells)) (length (now scales)) ⌝ }
+    requires { ⌜ ScoredRows format (length (now query)) 4 (length (now cells)) (length (now scales)) ⌝ }
     ensures { λ r.
         ⌜
         word (r .s0) ∷ word (r .s1) ∷ word (r .s2) ∷ word (r .s3) ∷ []
@@ -43,15 +43,23 @@ pub(crate) fn score_four(
     let r1 = cells_of(cells, c, 1, 1);
     let r2 = cells_of(cells, c, 2, 1);
     let r3 = cells_of(cells, c, 3, 1);
-    if format == 0 {
-        return four_f32(query, scale, r0, r1, r2, r3);
+    match format {
+        0 => four_f32(query, scale, r0, r1, r2, r3),
+        3 => {
+            let w = scales.len() / 4;
+            let w0 = scales_of(scales, w, 0, 1);
+            let w1 = scales_of(scales, w, 1, 1);
+            let w2 = scales_of(scales, w, 2, 1);
+            let w3 = scales_of(scales, w, 3, 1);
+            four_int4(query, scale, r0, r1, r2, r3, w0, w1, w2, w3)
+        }
+        _ => Four {
+            s0: 0.0,
+            s1: 0.0,
+            s2: 0.0,
+            s3: 0.0,
+        },
     }
-    let w = scales.len() / 4;
-    let w0 = scales_of(scales, w, 0, 1);
-    let w1 = scales_of(scales, w, 1, 1);
-    let w2 = scales_of(scales, w, 2, 1);
-    let w3 = scales_of(scales, w, 3, 1);
-    four_int4(query, scale, r0, r1, r2, r3, w0, w1, w2, w3)
 }
 
 // Stores the words of four scores.

@@ -18,7 +18,7 @@ ghost use lib.ListN.{length, drop};
 ghost use Rattle.shapes.specs.Buffers.{buffers};
 ghost use Rattle.replies.specs.Tried.{tells};
 ghost use Rattle.attention.specs.Block.{blockScores, blockScoresOf};
-ghost use Rattle.attention.specs.Fits.{Rows};
+ghost use Rattle.attention.specs.Fits.{ScoredRows};
 
 // Scores as many positions as `out` has places, under a query, and answers whether what is lent is such a block. The first half of the Rust's `decode_head_attention_f32` and `decode_head_attention_int4`.
 pub fn block_scores(
@@ -44,7 +44,7 @@ pub fn block_scores(
 
 // Four rows at a time, and what is left row by row.
 fn score_rows(format: u32, query: &[f32], scale: f32, cells: &[u8], scales: &[u32], out: &mut [u32])
-    requires { ⌜ Rows format (length (now query)) (length (now out)) (length (now cells)) (length (now scales)) ⌝ }
+    requires { ⌜ ScoredRows format (length (now query)) (length (now out)) (length (now cells)) (length (now scales)) ⌝ }
     ensures { λ _.
         ⌜
         now (out .exit)
@@ -74,7 +74,7 @@ fn score_fours(
     scales: &[u32],
     out: &mut [u32],
 ) -> usize
-    requires { ⌜ Rows format (length (now query)) (length (now out)) (length (now cells)) (length (now scales)) ⌝ }
+    requires { ⌜ ScoredRows format (length (now query)) (length (now out)) (length (now cells)) (length (now scales)) ⌝ }
     ensures within { λ r. ⌜ r ≤ length (now (out .entry)) ⌝ }
     ensures scored { λ r.
         ⌜

@@ -1,8 +1,8 @@
 // The scores of rows one by one, in each format that has scores.
+use decode::word_of;
 use numbers::codes::less_8;
 use numbers::words::f32_to_word;
 use numbers::words::word_to_f32;
-use rows::word_of;
 use shapes::cell_bytes;
 use shapes::scale_words;
 ghost use mathlib.Core.Path.{_≡_};
@@ -14,7 +14,7 @@ ghost use Rattle.shapes.specs.Buffers.{buffers};
 ghost use Rattle.rows.specs.Row.{f32At};
 ghost use Rattle.attention.specs.Block.{blockScores};
 ghost use Rattle.attention.specs.Order.{f32Dot, groupDot, int4Dot, rowDot};
-ghost use Rattle.attention.specs.Fits.{Rows, IsF32, IsInt4};
+ghost use Rattle.attention.specs.Fits.{ScoredRows, IsF32, IsInt4};
 
 pub(crate) fn score_rest(
     format: u32,
@@ -24,7 +24,7 @@ pub(crate) fn score_rest(
     scales: &[u32],
     out: &mut [u32],
 )
-    requires { ⌜ Rows format (length (now query)) (length (now out)) (length (now cells)) (length (now scales)) ⌝ }
+    requires { ⌜ ScoredRows format (length (now query)) (length (now out)) (length (now cells)) (length (now scales)) ⌝ }
     ensures { λ _.
         ⌜
         now (out .exit)
@@ -44,13 +44,14 @@ pub(crate) fn score_rest(
 }
 
 fn score_row(format: u32, query: &[f32], scale: f32, cells: &[u8], scales: &[u32]) -> f32
-    requires { ⌜ Rows format (length (now query)) 1 (length (now cells)) (length (now scales)) ⌝ }
+    requires { ⌜ ScoredRows format (length (now query)) 1 (length (now cells)) (length (now scales)) ⌝ }
     ensures { λ r. ⌜ r ≡ mul binary32 (rowDot format (now (query .entry)) (now (cells .entry)) (now (scales .entry))) scale ⌝ }
 {
-    if format == 0 {
-        return score_f32(query, scale, cells);
+    match format {
+        0 => score_f32(query, scale, cells),
+        3 => score_int4(query, scale, cells, scales),
+        _ => 0.0,
     }
-    score_int4(query, scale, cells, scales)
 }
 
 fn score_f32(query: &[f32], scale: f32, cells: &[u8]) -> f32

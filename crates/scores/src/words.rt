@@ -1,7 +1,7 @@
 // INT4 scores of four rows at once, by words of four bytes: the back end packs the four rows' codes into one vector.
 use crate::fours::Four;
+use decode::word_of;
 use numbers::words::word_to_f32;
-use rows::word_of;
 ghost use mathlib.Core.Path.{_≡_};
 ghost use Prim.Native.Nat.{_+_, _*_, _/_, _%_, _^_, _≤_};
 ghost use lib.ListN.{length};

@@ -1,24 +1,26 @@
 -- What a shape inside the limits is known by, and the sizes that follow from it.
 -- Each holds by the tests that make up the limits, one by one.
 use mathlib.Core.Path.{_≡_}
-use mathlib.Core.Bool.{Bool, true, false, cond}
-use Prim.Native.Nat.{ℕ, _*_, _%_, _≤_}
+use mathlib.Core.Bool.{true}
+use Prim.Native.Nat.{ℕ, _*_, _≤_}
 use native.Mathlib.Nat.{mul-le-mul}
 use native.Mathlib.Omega.{arith}
-use lib.Dec.{eqb, leb}
+use lib.Dec.{leb}
 use borrow.Author.Tests.{leb-true, eqb-true}
 use Rattle.replies.proofs.Flags.{both}
 use Rattle.shapes.specs.declared.Shape.{Shape}
-use Rattle.shapes.specs.Shape.{headSize, ofFormat, cellBytes, scaleWords, bytesOf, wordsOf, width, cellTotal, scaleTotal, upTo, limits, within, exact}
+use Rattle.shapes.specs.Format.{known, wholeGroups}
+use Rattle.shapes.specs.Shape.{headSize, cellBytes, scaleWords, bytesOf, wordsOf, width, cellTotal, scaleTotal, upTo, limits, within, exact}
+use Rattle.shapes.proofs.FormatLaws.{lawful}
 
 -- the limits, as facts
 pub record Limits (s : Shape) : Type 0 where
-  pub format-in : s .format ≤ 3
+  pub format-in : known (s .format) ≡ true
   pub layers-in : (1 ≤ s .layers) × (s .layers ≤ 128)
   pub heads-in : (1 ≤ s .heads) × (s .heads ≤ 64)
   pub size-in : (1 ≤ headSize s) × (headSize s ≤ 256)
   pub capacity-in : (1 ≤ s .capacity) × (s .capacity ≤ 4096)
-  pub whole-groups : ofFormat (s .format) 0 0 0 (headSize s % 32) ≡ 0
+  pub whole-groups : wholeGroups (s .format) (headSize s) ≡ true
 
 up-to : (most x : ℕ) → upTo most x ≡ true → (1 ≤ x) × (x ≤ most)
 up-to most x h = let t = both (leb 1 x) (leb x most) h in (leb-true 1 x (t .0), leb-true x most (t .1))
@@ -32,12 +34,12 @@ limits-facts s h =
     let e = both _ _ (d .1) in
     let f = both _ _ (e .1) in
     record {
-      format-in = leb-true (s .format) 3 (a .0);
+      format-in = a .0;
       layers-in = up-to 128 (s .layers) (b .0);
       heads-in = up-to 64 (s .heads) (d .0);
       size-in = up-to 256 (headSize s) (e .0);
       capacity-in = up-to 4096 (s .capacity) (f .0);
-      whole-groups = eqb-true _ 0 (f .1);
+      whole-groups = f .1;
     }
 
 -- a shape inside the limits and the most cells is inside the limits, and a shape's buffers have its two totals
@@ -49,22 +51,10 @@ pub exact-sizes : (s : Shape) (cells scales : ℕ) → exact s cells scales ≡ 
 unfolding exact
 exact-sizes s cells scales h = let t = both _ _ h in (eqb-true cells (cellTotal s) (t .0), eqb-true scales (scaleTotal s) (t .1))
 
-pick : (P : ℕ → Type 0) (t : Bool) {x y : ℕ} → P x → P y → P (cond t x y)
-pick P true px py = px
-pick P false px py = py
-
--- what holds of each format's case holds of the case that a format picks
-pub of-format : (P : ℕ → Type 0) (format a b d e : ℕ) → P a → P b → P d → P e → P (ofFormat format a b d e)
-unfolding ofFormat
-of-format P format a b d e pa pb pd pe = pick P (eqb format 0) pa (pick P (eqb format 1) pb (pick P (eqb format 2) pd pe))
-
 -- a row of up to 256 numbers has no more than 1,024 cells, and no more scale words
 pub row-most : (format d : ℕ) → d ≤ 256 → (cellBytes format d ≤ 1024) × (scaleWords format d ≤ 1024)
 unfolding cellBytes scaleWords
-row-most format d h = (
-  of-format (λ x. x ≤ 1024) format _ _ _ _ (omega arith) (omega arith) (omega arith) (omega arith),
-  of-format (λ x. x ≤ 1024) format _ _ _ _ (omega arith) (omega arith) (omega arith) (omega arith),
-)
+row-most format d h = let k = lawful format in (k .few-bytes d h, k .few-words d h)
 
 pub cell-bytes-most : (s : Shape) → Limits s → bytesOf s ≤ 1024
 cell-bytes-most s h = row-most (s .format) (headSize s) (h .size-in .1) .0

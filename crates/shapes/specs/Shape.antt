@@ -1,27 +1,24 @@
 -- A shape, its limits and the room that it needs: the paper's section Shape and room, and replies 1 and 2 of its section Replies.
-use Prim.Native.Nat.{ℕ, _*_, _/_, _%_}
+use Prim.Native.Nat.{ℕ, _*_, _/_}
 use mathlib.Core.Bool.{Bool, cond, not, _&&_}
 use mathlib.Core.List.{List, [], _∷_}
 use lib.Dec.{eqb, leb}
 use Rattle.replies.specs.Outcome.{Refusal, _when_}
 use Rattle.shapes.specs.declared.Need.{Need}
 use Rattle.shapes.specs.declared.Shape.{Shape}
+use Rattle.shapes.specs.Format.{known, wholeGroups, layoutOf}
 
 -- D: the numbers of a head
 abbrev pub headSize : Shape → ℕ
 headSize s = s .«head_size»
 
--- what F32, BF16, INT8 and INT4 have, by the number of the format
-unfoldable pub ofFormat : {A : Type 0} → ℕ → A → A → A → A → A
-ofFormat format f32 bf16 int8 int4 = cond (eqb format 0) f32 (cond (eqb format 1) bf16 (cond (eqb format 2) int8 int4))
-
 -- B: the cell bytes of one position and head
 unfoldable pub cellBytes : ℕ → ℕ → ℕ
-cellBytes format d = ofFormat format (4 * d) (2 * d) d (d / 2)
+cellBytes format d = layoutOf format .bytes d
 
 -- S: the scale words of one position and head
 unfoldable pub scaleWords : ℕ → ℕ → ℕ
-scaleWords format d = ofFormat format 0 0 1 (d / 32)
+scaleWords format d = layoutOf format .words d
 
 -- B and S of a shape, and the numbers of one position
 abbrev pub bytesOf : Shape → ℕ
@@ -51,15 +48,15 @@ scaleTotal s = total (wordsOf s) s
 abbrev pub upTo : ℕ → ℕ → Bool
 upTo most x = leb 1 x && leb x most
 
--- the limits of each field; INT4 wants no number outside a group of 32
+-- the limits of each field; a head's numbers are whole groups
 unfoldable pub limits : Shape → Bool
 limits s =
-    leb (s .format) 3
+    known (s .format)
     && (upTo 128 (s .layers)
     && (upTo 64 (s .heads)
     && (upTo 256 (headSize s)
     && (upTo 4096 (s .capacity)
-    && eqb (ofFormat (s .format) 0 0 0 (headSize s % 32)) 0))))
+    && wholeGroups (s .format) (headSize s)))))
 
 -- those, and the most cells
 unfoldable pub within : Shape → Bool

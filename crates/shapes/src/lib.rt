@@ -5,7 +5,8 @@ ghost use mathlib.Core.Bool.{true};
 ghost use Prim.Native.Nat.{_≤_};
 ghost use Rattle.replies.specs.Reply.{replyNumber};
 ghost use Rattle.replies.specs.Outcome.{lowest};
-ghost use Rattle.shapes.specs.Shape.{ofFormat, cellBytes, scaleWords, total, upTo, limits, within, needOf, roomRefusals};
+ghost use Rattle.shapes.specs.Format.{known, wholeGroups};
+ghost use Rattle.shapes.specs.Shape.{cellBytes, scaleWords, total, cellTotal, scaleTotal, upTo, limits, within, needOf, roomRefusals};
 
 pub struct Shape {
     pub format: u32,
@@ -21,22 +22,11 @@ pub struct Need {
     pub scales: usize,
 }
 
-// What F32, BF16, INT8 and INT4 have, by the number of the format.
-pub fn of_format(
-    format: u32,
-    of_f32: usize,
-    of_bf16: usize,
-    of_int8: usize,
-    of_int4: usize,
-) -> usize
-    ensures { λ r. ⌜ r ≡ ofFormat format «of_f32» «of_bf16» «of_int8» «of_int4» ⌝ }
+// Whether the format is one that there is.
+pub fn is_known(format: u32) -> bool
+    ensures { λ r. ⌜ r ≡ known format ⌝ }
 {
-    match format {
-        0 => of_f32,
-        1 => of_bf16,
-        2 => of_int8,
-        _ => of_int4,
-    }
+    format < 4
 }
 
 // B: the cell bytes of one position and head.
@@ -44,14 +34,39 @@ pub fn cell_bytes(format: u32, head_size: u32) -> usize
     ensures { λ r. ⌜ r ≡ cellBytes format «head_size» ⌝ }
 {
     let d = head_size as usize;
-    of_format(format, 4 * d, 2 * d, d, d / 2)
+    match format {
+        0 => 4 * d,
+        1 => 2 * d,
+        2 => d,
+        3 => d / 2,
+        _ => 0,
+    }
 }
 
 // S: the scale words of one position and head.
 pub fn scale_words(format: u32, head_size: u32) -> usize
     ensures { λ r. ⌜ r ≡ scaleWords format «head_size» ⌝ }
 {
-    of_format(format, 0, 0, 1, head_size as usize / 32)
+    match format {
+        0 => 0,
+        1 => 0,
+        2 => 1,
+        3 => head_size as usize / 32,
+        _ => 0,
+    }
+}
+
+// Whether `d` numbers are whole groups.
+pub fn whole_groups(format: u32, d: usize) -> bool
+    ensures { λ r. ⌜ r ≡ wholeGroups format d ⌝ }
+{
+    match format {
+        0 => true,
+        1 => true,
+        2 => true,
+        3 => d % 32 == 0,
+        _ => true,
+    }
 }
 
 // Whether a shape is inside the limits.
@@ -61,7 +76,7 @@ pub fn is_within(shape: Shape) -> bool
     if !in_limits(shape) {
         return false;
     }
-    room(shape, cell_bytes(shape.format, shape.head_size)) <= 1_073_741_824
+    elements(shape, cell_bytes(shape.format, shape.head_size)) <= 1_073_741_824
 }
 
 // Whether the shape is inside the limits and both buffers have exactly the lengths that it needs.
@@ -71,13 +86,11 @@ pub fn room_reply(shape: Shape, cells: usize, scales: usize) -> Reply
     if !is_within(shape) {
         return Reply::Shape;
     }
-    if cells != room(shape, cell_bytes(shape.format, shape.head_size)) {
-        return Reply::Room;
+    let need = totals(shape);
+    if (cells == need.cells) & (scales == need.scales) {
+        return Reply::Done;
     }
-    if scales != room(shape, scale_words(shape.format, shape.head_size)) {
-        return Reply::Room;
-    }
-    Reply::Done
+    Reply::Room
 }
 
 // The lengths of the buffers that a shape needs; none outside the limits.
@@ -90,14 +103,23 @@ pub fn need_of(shape: Shape) -> Need
             scales: 0,
         };
     }
+    totals(shape)
+}
+
+// The lengths of both buffers.
+fn totals(shape: Shape) -> Need
+    requires { ⌜ within shape ≡ true ⌝ }
+    ensures cells { λ r. ⌜ r .cells ≡ cellTotal shape ⌝ }
+    ensures scales { λ r. ⌜ r .scales ≡ scaleTotal shape ⌝ }
+{
     Need {
-        cells: room(shape, cell_bytes(shape.format, shape.head_size)),
-        scales: room(shape, scale_words(shape.format, shape.head_size)),
+        cells: elements(shape, cell_bytes(shape.format, shape.head_size)),
+        scales: elements(shape, scale_words(shape.format, shape.head_size)),
     }
 }
 
 // All elements of a buffer that has `each` for one position and head.
-fn room(shape: Shape, each: usize) -> usize
+fn elements(shape: Shape, each: usize) -> usize
     requires { ⌜ (limits shape ≡ true) × (each ≤ 1024) ⌝ }
     ensures { λ r. ⌜ r ≡ total each shape ⌝ }
 {
@@ -108,26 +130,16 @@ fn room(shape: Shape, each: usize) -> usize
 pub fn in_limits(shape: Shape) -> bool
     ensures { λ r. ⌜ r ≡ limits shape ⌝ }
 {
-    if 3 < shape.format {
-        return false;
-    }
-    if !up_to(128, shape.layers) {
-        return false;
-    }
-    if !up_to(64, shape.heads) {
-        return false;
-    }
-    if !up_to(256, shape.head_size) {
-        return false;
-    }
-    if !up_to(4096, shape.capacity) {
-        return false;
-    }
-    of_format(shape.format, 0, 0, 0, shape.head_size as usize % 32) == 0
+    is_known(shape.format)
+        & (up_to(128, shape.layers)
+            & (up_to(64, shape.heads)
+                & (up_to(256, shape.head_size)
+                    & (up_to(4096, shape.capacity)
+                        & whole_groups(shape.format, shape.head_size as usize)))))
 }
 
 fn up_to(most: u32, x: u32) -> bool
     ensures { λ r. ⌜ r ≡ upTo most x ⌝ }
 {
-    if x < 1 { false } else { x <= most }
+    (1 <= x) & (x <= most)
 }

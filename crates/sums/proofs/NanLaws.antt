@@ -14,7 +14,7 @@ use Rattle.lists.proofs.Some.{some-none, some-never, sum-none}
 use Rattle.lists.proofs.Turns.{turns-add}
 use Rattle.rows.specs.Row.{f32At}
 use Rattle.rows.proofs.FitLaws.{fits-facts}
-use Rattle.attention.specs.Fits.{Rows, IsF32}
+use Rattle.attention.specs.Fits.{ScoredRows, IsF32}
 use Rattle.sums.proofs.SumLaws.{bytes, half}
 
 -- 1 for what holds, 0 for what does not
@@ -70,7 +70,7 @@ module _ (n : ℕ) (n0 n2 : List ℕ) where
   )
 
 -- four F32 rows have four times as many numbers as one, and that is few
-pub four-size : (n cells scales : ℕ) → Rows 0 n 4 cells scales → (cells ≡ 4 * (n * 4)) × (n ≤ 256)
+pub four-size : (n cells scales : ℕ) → ScoredRows 0 n 4 cells scales → (cells ≡ 4 * (n * 4)) × (n ≤ 256)
 four-size n cells scales h = let k = fits-facts (h .1) in (rw (bytes n) (k .cell-bytes), k .small)
 
 module _ (n : ℕ) (cells : List ℕ) (four : length cells ≡ 4 * (n * 4)) where
@@ -101,7 +101,7 @@ module _ (n : ℕ) (cells : List ℕ) (four : length cells ≡ 4 * (n * 4)) wher
       (some-never _ _ (λ d w. rw (e2, half-number 2 d w) at (some-none (2 * n) d _ (p .1) w))))
 
 -- two rows of four without a NaN, and two of the four behind them
-module _ (cells scales : List ℕ) (l : List Float) (h : Rows 0 (length l) 4 (length cells) (length scales)) where
+module _ (cells scales : List ℕ) (l : List Float) (h : ScoredRows 0 (length l) 4 (length cells) (length scales)) where
   pub plain-rows : (i : ℕ) (r : List ℕ) → i ≤ 2 → Plain (4 * length l) cells → r ≡ half i cells
       → IsF32 (2 * length l) (length r) × Plain (2 * length l) r
   plain-rows i r b p e =

@@ -11,24 +11,25 @@ use Rattle.lists.specs.Chunks.{turns, part}
 use Rattle.lists.proofs.Part.{part-length, part-part, part-chunk}
 use Rattle.lists.proofs.Tab.{tab-length, tab-same}
 use Rattle.lists.proofs.Turns.{turns-same, turns-add}
-use Rattle.shapes.specs.Shape.{ofFormat, cellBytes, scaleWords}
+use Rattle.shapes.specs.Format.{layouts}
+use Rattle.shapes.specs.Shape.{cellBytes, scaleWords}
 use Rattle.rows.specs.Row.{f32At}
 use Rattle.shapes.specs.Buffers.{buffers}
 use Rattle.rows.proofs.FitLaws.{fits-facts}
-use Rattle.attention.specs.Order.{f32Term, rowTerm, added}
+use Rattle.attention.specs.Order.{scorings, f32Term, rowTerm, added}
 use Rattle.attention.specs.Block.{blockTerm}
-use Rattle.attention.specs.Fits.{Rows}
+use Rattle.attention.specs.Fits.{ScoredRows}
 use Rattle.attention.proofs.PartLaws.{rows-inside, some-rows}
 
 pub bytes : (d : ℕ) → d * 4 ≡ cellBytes 0 d
-unfolding cellBytes ofFormat
+unfolding cellBytes layouts
 bytes d = omega arith
 
 no-words : (d k : ℕ) → k * scaleWords 0 d ≡ 0
-unfolding scaleWords ofFormat
+unfolding scaleWords layouts
 no-words d k = omega arith
 
-module _ (weights : List Float) (cells scales : List ℕ) (d : ℕ) (h : Rows 0 d (length weights) (length cells) (length scales)) where
+module _ (weights : List Float) (cells scales : List ℕ) (d : ℕ) (h : ScoredRows 0 d (length weights) (length cells) (length scales)) where
   -- k rows from row p on lie in the cells
   pub f32-inside : (p k : ℕ) → p + k ≤ length weights → p * (d * 4) + k * (d * 4) ≤ length cells
   f32-inside p k b = rows-inside p k {v = scaleWords 0 d} (fits-facts (h .1)) (bytes d) refl b .0
@@ -37,7 +38,7 @@ module _ (weights : List Float) (cells scales : List ℕ) (d : ℕ) (h : Rows 0 
   f32-count p k x b e = rw e (part-length (p * (d * 4)) (k * (d * 4)) cells (f32-inside p k b))
 
   -- they are a block of their own
-  pub f32-some : (p k : ℕ) {x : List ℕ} → p + k ≤ length weights → x ≡ part (p * (d * 4)) (k * (d * 4)) cells → Rows 0 d k (length x) (length scales)
+  pub f32-some : (p k : ℕ) {x : List ℕ} → p + k ≤ length weights → x ≡ part (p * (d * 4)) (k * (d * 4)) cells → ScoredRows 0 d k (length x) (length scales)
   f32-some p k b e =
       some-rows 0 d (length weights) (length cells) (length scales) k h (omega arith)
       (rw (f32-count p k _ b e, bytes d))
@@ -49,7 +50,7 @@ module _ (weights : List Float) (cells scales : List ℕ) (d : ℕ) (h : Rows 0 
 
   part-term : (p k i : ℕ) → i < k
       → blockTerm 0 (part p k weights) (buffers (part (p * cellBytes 0 d) (k * cellBytes 0 d) cells) scales) d i ≡ blockTerm 0 weights (buffers cells scales) d (p + i)
-  unfolding rowTerm
+  unfolding rowTerm scorings
   part-term p k i w = rw (getD-take k _ i nan w, getD-drop p weights i nan, part-chunk (cellBytes 0 d) p k i cells w)
 
   pub f32-after : (p k : ℕ) (x : List Float) {u y z : List Float} {a : List ℕ} → p + k ≤ length weights → length y ≡ d → u ≡ part p k weights
@@ -81,14 +82,14 @@ unfolding added
 added-length t l = tab-length (length l) _
 
 -- the four terms of each sum are those of a block of four
-module _ (cells scales : List ℕ) (l : List Float) (h : Rows 0 (length l) 4 (length cells) (length scales)) (weights : List Float) where
+module _ (cells scales : List ℕ) (l : List Float) (h : ScoredRows 0 (length l) 4 (length cells) (length scales)) (weights : List Float) where
   abbrev with : ℕ → List Float → List Float
   with p = added (blockTerm 0 weights (buffers cells scales) (length l) p)
 
   with-row : (i p : ℕ) {r : List ℕ} (k : ℕ → ℕ) (x : List Float) → length x ≡ length l → r ≡ half i cells
       → ((d : ℕ) → d < length l → (k d < 2 * length l) × (i * (length l * 4) + k d * 4 ≡ p * (length l * 4) + d * 4))
       → added (λ d. f32Term (getD weights p nan) r (k d)) x ≡ with p x
-  unfolding rowTerm
+  unfolding rowTerm scorings
   with-row i p k x s e f =
       let q : length cells / 4 ≡ length l * 4 = omega (arith, rw (← bytes (length l)) at (fits-facts (h .1) .cell-bytes)) in
       added-same x _ _ (λ d b. let c : d < length l = omega arith in rw (row-number (length l) cells i p (k d) d q e c (f d c .0) (f d c .1)))

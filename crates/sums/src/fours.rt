@@ -13,11 +13,11 @@ ghost use Rattle.shapes.specs.Buffers.{buffers};
 ghost use Rattle.rows.specs.Row.{f32At};
 ghost use Rattle.attention.specs.Order.{f32Term, added};
 ghost use Rattle.attention.specs.Block.{blockTerm};
-ghost use Rattle.attention.specs.Fits.{Rows, IsF32};
+ghost use Rattle.attention.specs.Fits.{ScoredRows, IsF32};
 
 // Adds the terms of F32 rows, four at a time while four more lie behind them, and what is left row by row.
 pub(crate) fn add_f32_rows(weights: &[f32], cells: &[u8], scales: &[u32], out: &mut [f32])
-    requires { ⌜ Rows 0 (length (now out)) (length (now weights)) (length (now cells)) (length (now scales)) ⌝ }
+    requires { ⌜ ScoredRows 0 (length (now out)) (length (now weights)) (length (now cells)) (length (now scales)) ⌝ }
     ensures { λ _.
         ⌜
         now (out .exit)
@@ -54,7 +54,7 @@ fn add_four(
     scales: &[u32],
     out: &mut [f32],
 ) -> u32
-    requires { ⌜ (length (now weights) ≡ 4) × Rows 0 (length (now out)) 4 (length (now cells)) (length (now scales)) × (length (now next) ≡ length (now cells)) ⌝ }
+    requires { ⌜ (length (now weights) ≡ 4) × ScoredRows 0 (length (now out)) 4 (length (now cells)) (length (now scales)) × (length (now next) ≡ length (now cells)) ⌝ }
     requires { ⌜ (found ≡ 0 → some (4 * length (now out)) (λ d. nanBits binary32 (f32At (now cells) d)) ≡ false) ⌝ }
     ensures sums { λ _.
         ⌜

@@ -16,7 +16,7 @@ ghost use Rattle.shapes.specs.Buffers.{buffers};
 ghost use Rattle.replies.specs.Tried.{tells};
 ghost use Rattle.attention.specs.Order.{added};
 ghost use Rattle.attention.specs.Block.{blockTerm, blockSums, blockSumsOf};
-ghost use Rattle.attention.specs.Fits.{Rows};
+ghost use Rattle.attention.specs.Fits.{ScoredRows};
 
 // Sums as many positions as there are weights, and answers whether what is lent is such a block. The second half of the Rust's `decode_head_attention_f32` and `decode_head_attention_int4`.
 pub fn block_sums(
@@ -41,7 +41,7 @@ pub fn block_sums(
 
 // The sums grow in an array of floats, and leave as words.
 fn sum_rows(format: u32, weights: &[f32], cells: &[u8], scales: &[u32], out: &mut [u32])
-    requires { ⌜ Rows format (length (now out)) (length (now weights)) (length (now cells)) (length (now scales)) ⌝ }
+    requires { ⌜ ScoredRows format (length (now out)) (length (now weights)) (length (now cells)) (length (now scales)) ⌝ }
     ensures { λ _.
         ⌜
         now (out .exit)
@@ -73,7 +73,7 @@ fn put_sums(sums: &[f32], out: &mut [u32])
 
 // Adds the terms of each position to what is there.
 fn add_rows(format: u32, weights: &[f32], cells: &[u8], scales: &[u32], out: &mut [f32])
-    requires { ⌜ Rows format (length (now out)) (length (now weights)) (length (now cells)) (length (now scales)) ⌝ }
+    requires { ⌜ ScoredRows format (length (now out)) (length (now weights)) (length (now cells)) (length (now scales)) ⌝ }
     ensures { λ _.
         ⌜
         now (out .exit)

@@ -11,11 +11,11 @@ ghost use Rattle.lists.specs.Chunks.{turns};
 ghost use Rattle.shapes.specs.Buffers.{buffers};
 ghost use Rattle.attention.specs.Order.{groupCode, f32Term, int4Term, rowTerm, added};
 ghost use Rattle.attention.specs.Block.{blockTerm};
-ghost use Rattle.attention.specs.Fits.{Rows, IsF32, IsInt4};
+ghost use Rattle.attention.specs.Fits.{ScoredRows, IsF32, IsInt4};
 
 // Adds the terms of each row, one row after the other.
 pub(crate) fn add_rest(format: u32, weights: &[f32], cells: &[u8], scales: &[u32], out: &mut [f32])
-    requires { ⌜ Rows format (length (now out)) (length (now weights)) (length (now cells)) (length (now scales)) ⌝ }
+    requires { ⌜ ScoredRows format (length (now out)) (length (now weights)) (length (now cells)) (length (now scales)) ⌝ }
     ensures { λ _.
         ⌜
         now (out .exit)
@@ -36,14 +36,14 @@ pub(crate) fn add_rest(format: u32, weights: &[f32], cells: &[u8], scales: &[u32
 }
 
 fn add_row(format: u32, weight: f32, cells: &[u8], scales: &[u32], out: &mut [f32])
-    requires { ⌜ Rows format (length (now out)) 1 (length (now cells)) (length (now scales)) ⌝ }
+    requires { ⌜ ScoredRows format (length (now out)) 1 (length (now cells)) (length (now scales)) ⌝ }
     ensures { λ _. ⌜ now (out .exit) ≡ added (rowTerm format weight (now (cells .entry)) (now (scales .entry))) (now (out .entry)) ⌝ }
 {
-    if format == 0 {
-        add_f32(weight, cells, out);
-        return;
+    match format {
+        0 => add_f32(weight, cells, out),
+        3 => add_int4(weight, cells, scales, out),
+        _ => {}
     }
-    add_int4(weight, cells, scales, out);
 }
 
 fn add_f32(weight: f32, cells: &[u8], out: &mut [f32])

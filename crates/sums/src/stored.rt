@@ -1,5 +1,5 @@
 // What stands in an F32 row, and whether it is a NaN.
-use rows::word_of;
+use decode::word_of;
 ghost use mathlib.Core.Path.{_≡_};
 ghost use mathlib.Core.Bool.{false, cond};
 ghost use Prim.Native.Nat.{_+_, _*_, _≤_};

@@ -1,6 +1,6 @@
 // Writes: rows in a layer of both buffers, written from numbers.
+use encode::put_row;
 use layers::layer_fits;
-use rows::put_row;
 use shapes::Shape;
 use shapes::cell_bytes;
 use shapes::scale_words;

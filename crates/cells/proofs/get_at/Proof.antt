@@ -5,7 +5,8 @@ use native.Mathlib.Omega.{arith}
 use lib.ListN.{length}
 use Rattle.lists.proofs.Part.{lent-count}
 use Rattle.shapes.specs.Shape.{bytesOf, wordsOf}
-use Rattle.rows.proofs.FitLaws.{shape-fits, get-left}
+use Rattle.decode.proofs.DecodeLaws.{get-left}
+use Rattle.rows.proofs.FitLaws.{shape-fits}
 use Rattle.layers.proofs.SizeLaws.{cells-most, words-most}
 use Rattle.cells.specs.Calls.{rowAt}
 use Rattle.cells.proofs.LentLaws.{row-within, row-lent}

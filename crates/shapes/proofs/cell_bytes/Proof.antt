@@ -1,21 +1,39 @@
--- The definition is the call's own arguments.
-use borrow.Author.Needs.{needs}
+-- Each arm is a line of the table, and the last what the table has not.
+use mathlib.Core.Path.{sym, ap}
+use native.Mathlib.Omega.{arith}
 use Rattle.shapes.specs.Shape.{cellBytes}
+use Rattle.shapes.specs.Format.{Layout, layouts}
+use Rattle.shapes.proofs.FormatLaws.{unknown}
+use borrow.Author.Needs.{needs}
 use Rattle.shapes.proofs.cell_bytes.Statement.{statement}
 use Rattle.shapes.proofs.cell_bytes.Tie as tie
 
-mul-of-format : tie.Need-mul-of-format
-mul-of-format c = search needs
+mul-result : tie.Need-mul-result
+mul-result c = search needs
 
-mul-of-format-2 : tie.Need-mul-of-format-2
-mul-of-format-2 c = search needs
-
-of-format-requires : tie.Need-of-format-requires
-of-format-requires c κs = search needs
+mul-result-2 : tie.Need-mul-result-2
+mul-result-2 c = search needs
 
 returns : tie.Need-returns
-unfolding cellBytes
-returns c = search needs
+unfolding cellBytes layouts
+returns c = rw (c .match .keys1)
+
+returns-2 : tie.Need-returns-2
+unfolding cellBytes layouts
+returns-2 c = rw (c .match .keys2)
+
+returns-3 : tie.Need-returns-3
+unfolding cellBytes layouts
+returns-3 c = rw (c .match .keys3)
+
+returns-4 : tie.Need-returns-4
+unfolding cellBytes layouts
+returns-4 c = rw (c .match .keys4)
+
+returns-5 : tie.Need-returns-5
+unfolding cellBytes layouts
+returns-5 c = sym (ap (λ (f : Layout). f .bytes (c .before .args .«head-size»)) (unknown (c .before .args .format) (omega arith)))
 
 pub cell-bytes-spec : {M : Type 1} → statement M
-cell-bytes-spec = tie.close (tie.spec mul-of-format mul-of-format-2 of-format-requires returns)
+cell-bytes-spec =
+    tie.close (tie.spec mul-result mul-result-2 returns returns-2 returns-3 returns-4 returns-5)

@@ -1,8 +1,8 @@
 -- Past the limits, the total is computed and compared.
-use borrow.Author.Needs.{needs}
-use Rattle.shapes.specs.Shape.{within}
 use Rattle.replies.proofs.Flags.{passed, failed}
+use Rattle.shapes.specs.Shape.{within}
 use Rattle.shapes.proofs.ShapeLaws.{limits-facts, cell-bytes-most}
+use borrow.Author.Needs.{needs}
 use Rattle.shapes.proofs.is_within.Statement.{statement}
 use Rattle.shapes.proofs.is_within.Tie as tie
 
@@ -16,15 +16,13 @@ returns c = rw (failed (c .before .in-limits .ensures) (c .if1 .taken))
 cell-bytes-requires : tie.Need-cell-bytes-requires
 cell-bytes-requires c κs = search needs
 
-room-requires : tie.Need-room-requires
-room-requires c κs =
-    let h = passed (c .before .before .in-limits .ensures) (c .before .if1 .left) in
-    (h, rw (c .cell-bytes .ensures) (cell-bytes-most (c .before .before .before .args .shape) (limits-facts _ h)))
+elements-requires : tie.Need-elements-requires
+elements-requires c κs = let h = passed (c .before .before .in-limits .ensures) (c .before .if1 .left) in (h, rw (c .cell-bytes .ensures) (cell-bytes-most _ (limits-facts _ h)))
 
 returns-2 : tie.Need-returns-2
 unfolding within
-returns-2 c =
-    rw (passed (c .before .before .before .in-limits .ensures) (c .before .before .if1 .left), c .room .ensures, c .before .cell-bytes .ensures)
+returns-2 c = rw (passed (c .before .before .before .in-limits .ensures) (c .before .before .if1 .left), c .elements .ensures, c .before .cell-bytes .ensures)
 
 pub is-within-spec : {M : Type 1} → statement M
-is-within-spec = tie.close (tie.spec in-limits-requires returns cell-bytes-requires room-requires returns-2)
+is-within-spec =
+    tie.close (tie.spec in-limits-requires returns cell-bytes-requires elements-requires returns-2)

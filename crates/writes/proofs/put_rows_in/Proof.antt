@@ -11,7 +11,7 @@ use Rattle.lists.proofs.Loop.{Passed, chunk-in, chunk-turn, over-done}
 use Rattle.shapes.specs.Shape.{headSize, cellBytes, scaleWords, width}
 use Rattle.shapes.proofs.ShapeLaws.{width-in}
 use Rattle.rows.specs.Row.{rowCells, rowScales}
-use Rattle.rows.proofs.FitLaws.{put-left}
+use Rattle.encode.proofs.EncodeLaws.{put-left}
 use Rattle.layers.specs.Calls.{headNumbers}
 use Rattle.layers.proofs.ChunkLaws.{Rows}
 use Rattle.layers.proofs.RunLaws.{numbers-in, run-lent, head-cells, head-scales, head-fits}

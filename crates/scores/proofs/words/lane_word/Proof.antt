@@ -6,7 +6,7 @@ use borrow.Author.Needs.{needs}
 use lib.ListN.{getD}
 use Rattle.lists.specs.Bytes.{fromLittle}
 use Rattle.lists.specs.Chunks.{turns, part}
-use Rattle.rows.proofs.RowLaws.{word-lent}
+use Rattle.decode.proofs.DecodeLaws.{word-lent}
 use Rattle.scores.proofs.WordLaws.{word-turn}
 use Rattle.scores.proofs.words.lane_word.Statement.{statement}
 use Rattle.scores.proofs.words.lane_word.Tie as tie

@@ -1,32 +1,35 @@
--- The format's test is the definition's, and each side knows the lengths that its format has.
+-- Each arm is a format that has sums, with the lengths that it has; no other is asked for.
+use native.Mathlib.Omega.{arith}
 use borrow.Author.Needs.{needs}
-use borrow.Author.Tests.{eq-eqb, ne-eqb}
-use Rattle.attention.specs.Order.{rowTerm, added}
-use Rattle.attention.proofs.BlockLaws.{f32-row, int4-row}
+use Rattle.attention.specs.Order.{scorings, rowTerm, added}
+use Rattle.attention.proofs.BlockLaws.{f32-row, int4-row, scored-other}
 use Rattle.sums.proofs.rest.add_row.Statement.{statement}
 use Rattle.sums.proofs.rest.add_row.Tie as tie
 
 add-f32-requires : tie.Need-add-f32-requires
-add-f32-requires c κs = f32-row _ _ _ _ (c .before .before .before .before .before .pre) (c .before .if1 .taken)
+add-f32-requires c κs = f32-row _ _ _ _ (c .before .before .before .before .before .pre) (c .before .match .keys1)
+
+add-int4-requires : tie.Need-add-int4-requires
+add-int4-requires c κs = int4-row _ _ _ _ (c .before .before .before .before .before .pre) (c .before .match .keys2)
 
 same-length : tie.Need-same-length
 same-length c = search needs
 
 returns : tie.Need-returns
-unfolding rowTerm added
-returns c = rw (eq-eqb _ _ (c .before .before .before .before .if1 .taken)) (c .before .before .add-f32 .ensures)
-
-add-int4-requires : tie.Need-add-int4-requires
-add-int4-requires c κs = int4-row _ _ _ _ (c .before .before .before .before .before .pre) (c .before .if1 .left)
+unfolding rowTerm scorings added
+returns c = rw (c .before .before .before .before .match .keys1) (c .before .before .add-f32 .ensures)
 
 same-length-2 : tie.Need-same-length-2
 same-length-2 c = search needs
 
 returns-2 : tie.Need-returns-2
-unfolding rowTerm added
-returns-2 c = rw (ne-eqb _ _ (c .before .before .before .before .if1 .left)) (c .before .before .add-int4 .ensures)
+unfolding rowTerm scorings added
+returns-2 c = rw (c .before .before .before .before .match .keys2) (c .before .before .add-int4 .ensures)
+
+returns-3 : tie.Need-returns-3
+returns-3 c = absurd (scored-other (c .before .before .before .before .args .format) (c .before .before .before .before .pre .0) (λ e. omega arith) (λ e. omega arith))
 
 pub add-row-spec : {M : Type 1} → statement M
 add-row-spec =
     tie.close
-    (tie.spec add-f32-requires same-length returns add-int4-requires same-length-2 returns-2)
+    (tie.spec add-f32-requires add-int4-requires same-length returns same-length-2 returns-2 returns-3)

@@ -1,0 +1,69 @@
+-- The words passed are the run's, and what is left is as it was.
+use mathlib.Core.Path.{_≡_, refl, sym, _∙_}
+use mathlib.Core.List.{_++_}
+use Prim.Native.Nat.{_-_, _≤_}
+use native.Mathlib.Omega.{arith}
+use lib.ListN.{length, getD, drop}
+use borrow.Author.Needs.{needs}
+use Rattle.lists.specs.Chunks.{tab}
+use Rattle.lists.proofs.Tab.{tab-of, tab-set, tab-done}
+use Rattle.encode.proofs.copy_words.Statement.{statement}
+use Rattle.encode.proofs.copy_words.Tie as tie
+
+abbrev Inv-loop : tie.InvT-loop
+Inv-loop run words₀ i₀ words i =
+    (i ≤ length words₀) × (words ≡ tab i (λ d. getD run d 0) ++ drop i words₀) × (length words ≡ length words₀)
+
+abbrev μ-loop : tie.MeasureT-loop
+μ-loop run words₀ i₀ words i = length run - i
+
+loop-holds : tie.Need-loop-holds Inv-loop μ-loop
+unfolding tab
+loop-holds c = search needs
+
+mul-words : tie.Need-mul-words Inv-loop μ-loop
+mul-words c = search needs
+
+shared-slice-read-words : tie.Need-shared-slice-read-words Inv-loop μ-loop
+shared-slice-read-words c = search needs
+
+mul-words-2 : tie.Need-mul-words-2 Inv-loop μ-loop
+mul-words-2 c = search needs
+
+slice-write-words : tie.Need-slice-write-words Inv-loop μ-loop
+slice-write-words c = search needs
+
+add-i : tie.Need-add-i Inv-loop μ-loop
+add-i c = search needs
+
+loop-less : tie.Need-loop-less Inv-loop μ-loop
+loop-less c = search needs
+
+loop-again : tie.Need-loop-again Inv-loop μ-loop
+loop-again c = (omega arith, tab-set _ _ _ (omega arith) (c .before .before .loop .inv .1) refl, search needs)
+
+same-length : tie.Need-same-length Inv-loop μ-loop
+same-length c = search needs
+
+returns : tie.Need-returns Inv-loop μ-loop
+returns c =
+    let s = c .before .before in
+    tab-done (length (s .args .run .now)) _ _ (c .before .loop .inv .1) (omega arith) (s .pre)
+    ∙ sym (tab-of _ _ (s .args .run .now) 0 refl (λ i b. refl))
+
+pub copy-words-spec : {M : Type 1} → statement M
+copy-words-spec =
+    tie.close
+    (tie.spec
+    Inv-loop
+    μ-loop
+    loop-holds
+    mul-words
+    shared-slice-read-words
+    mul-words-2
+    slice-write-words
+    add-i
+    loop-less
+    loop-again
+    same-length
+    returns)
