@@ -14,8 +14,9 @@ use Rattle.shapes.specs.declared.Shape.{Shape}
 use Rattle.shapes.specs.Buffers.{buffers}
 use Rattle.shapes.specs.Shape.{headSize, cellBytes, scaleWords, width}
 use Rattle.rows.specs.Row.{rowCells, rowScales}
-use Rattle.rows.specs.Calls.{putRowOf}
-use Rattle.rows.proofs.FitLaws.{RowFits, shape-fits, put-left}
+use Rattle.encode.specs.Encode.{putRowOf}
+use Rattle.encode.proofs.EncodeLaws.{put-left}
+use Rattle.rows.proofs.FitLaws.{RowFits, shape-fits}
 use Rattle.buffers.specs.Calls.{headNumbers}
 use Rattle.buffers.specs.Fits.{RowsFit}
 use Rattle.buffers.proofs.RunLaws.{numbers-in, run-lent, cell-rows, scale-rows}

@@ -1,7 +1,7 @@
 // Buffers: rows of numbers in both buffers, appended to a layer and removed from it. The caller says how many positions the layer has.
+use encode::put_row;
 use places::span_of;
 use replies::number;
-use rows::put_row;
 use shapes::Shape;
 use shapes::cell_bytes;
 use shapes::room_reply;
