@@ -83,12 +83,12 @@ returns-2 c = rw (failed (tested (c .before)) (c .if2 .taken))
 put-positions-requires : tie.Need-put-positions-requires
 put-positions-requires c κs =
     let x = fits (c .before .before) in
-    (in-layer _ _ _ _ (x .0) (omega arith) (le-refl _) (search needs) (search needs), x .1)
+    (in-layer _ _ _ _ (x .0) (omega arith) (le-refl _) (search needs) (search needs), search x)
 
 put-positions-requires-2 : tie.Need-put-positions-requires-2
 put-positions-requires-2 c κs =
     let x = fits (c .before .before .before .before .before .before .before .before .before) in
-    (in-layer _ _ _ _ (x .0) (omega arith) (le-refl _) (search needs) (search needs), x .2)
+    (in-layer _ _ _ _ (x .0) (omega arith) (le-refl _) (search needs) (search needs), search x)
 
 same-length : tie.Need-same-length
 same-length c = search needs
