@@ -1,5 +1,5 @@
 -- The tests decide: refused, both buffers are as they were, and past them both sides of the layer have the new rows.
-use mathlib.Core.Path.{_≡_, refl}
+use mathlib.Core.Path.{_≡_}
 use mathlib.Core.Bool.{true, _&&_}
 use Prim.Native.Nat.{_+_, _*_}
 use native.Mathlib.Nat.{le-refl, div-le-self}
