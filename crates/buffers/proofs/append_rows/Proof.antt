@@ -13,7 +13,8 @@ use Rattle.shapes.specs.Buffers.{buffers}
 use Rattle.shapes.specs.Shape.{width, positions, limits}
 use Rattle.shapes.proofs.ShapeLaws.{width-in}
 use Rattle.buffers.specs.Calls.{sideOf, cellRow, scaleRow, appended, layerFits, wholeRows, appendRowsOf}
-use Rattle.buffers.proofs.FitLaws.{room-limits, layer-fits, layer-left, in-layer, whole-rows, both-sides}
+use Rattle.buffers.proofs.FitLaws.{room-limits, layer-fits, layer-left, in-layer, both-sides}
+use Rattle.buffers.proofs.RunLaws.{whole-rows}
 use Rattle.buffers.proofs.append_rows.Statement.{statement}
 use Rattle.buffers.proofs.append_rows.Tie as tie
 
