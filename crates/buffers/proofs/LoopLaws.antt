@@ -17,7 +17,7 @@ use Rattle.shapes.specs.Shape.{bytesOf, wordsOf, total}
 use Rattle.shapes.proofs.ShapeLaws.{Limits, limits-facts, cell-bytes-most, scale-words-most}
 use Rattle.places.specs.declared.Span.{Span}
 use Rattle.places.specs.Place.{rowOf, place}
-use Rattle.places.specs.Span.{spanAt, spanOf}
+use Rattle.places.specs.Span.{spanOf}
 use Rattle.places.proofs.SpanLaws.{SpanIn, spanned, rows-small, span-in, span-size}
 use Rattle.buffers.specs.Fits.{InLayer}
 use Rattle.buffers.specs.Write.{put, writtenSide}
@@ -61,6 +61,11 @@ head-ends {s} {l} {side} {h} {p} {n} b k few t u v w =
       small = rw (v, w, y) (omega (arith, rows-small k few, span-size k b));
     }
 
+-- in both buffers, whose rows have c and w elements
+pub record BlockIn (s : Shape) (l side h p n c w : ℕ) (first : Span) (cells scales : ℕ) : Type 0 where
+  pub cells-at : let d = h * (s .capacity * c) in Ends (bytesOf s) s l side h p n cells (first .«cells_from» + d) (first .«cells_to» + d)
+  pub words-at : let d = h * (s .capacity * w) in Ends (wordsOf s) s l side h p n scales (first .«scales_from» + d) (first .«scales_to» + d)
+
 module _ {s : Shape} {l side p n cells scales : ℕ} (k : InLayer s l side p n cells scales) where
   limited : Limits s
   limited = limits-facts s (k .in-limits)
@@ -76,17 +81,14 @@ module _ {s : Shape} {l side p n cells scales : ℕ} (k : InLayer s l side p n c
   head-span : {h : ℕ} → h < s .heads → SpanIn s l side h p n
   head-span w = record { in-limits = k .in-limits; layer-in = k .layer-in; side-in = k .side-in; head-in = w; span = k .span }
 
-  module _ {h : ℕ} {first : Span} (w : h < s .heads) (e : first ≡ spanOf s l side 0 p n) where
-    known : first ≡ spanAt s l side 0 p n
-    known = e ∙ spanned (head-span (limited .heads-in .0))
-
-    pub cells-ends : {r size : ℕ} → r ≡ bytesOf s → size ≡ cells
-        → let d = h * (s .capacity * r) in Ends (bytesOf s) s l side h p n size (first .«cells_from» + d) (first .«cells_to» + d)
-    cells-ends q t = head-ends (bytesOf s) (head-span w) (cell-bytes-most s limited) (t ∙ k .cell-size) (rw known) (rw known) q
-
-    pub words-ends : {r size : ℕ} → r ≡ wordsOf s → size ≡ scales
-        → let d = h * (s .capacity * r) in Ends (wordsOf s) s l side h p n size (first .«scales_from» + d) (first .«scales_to» + d)
-    words-ends q t = head-ends (wordsOf s) (head-span w) (scale-words-most s limited) (t ∙ k .scale-size) (rw known) (rw known) q
+  pub block-in : {h c w x y : ℕ} {first : Span} → h < s .heads → first ≡ spanOf s l side 0 p n → c ≡ bytesOf s → w ≡ wordsOf s → x ≡ cells → y ≡ scales
+      → BlockIn s l side h p n c w first x y
+  block-in v e c w x y =
+      let first = e ∙ spanned (head-span (limited .heads-in .0)) in
+      record {
+        cells-at = head-ends (bytesOf s) (head-span v) (cell-bytes-most s limited) (x ∙ k .cell-size) (rw first) (rw first) c;
+        words-at = head-ends (wordsOf s) (head-span v) (scale-words-most s limited) (y ∙ k .scale-size) (rw first) (rw first) w;
+      }
 
 -- a loop over the heads of a side: out is buf with the rows of the first h of them
 pub record Heads (b : ℕ) (s : Shape) (l side p n : ℕ) (rows : ℕ → ℕ → List ℕ) (buf : List ℕ) (h : ℕ) (out : List ℕ) : Type 0 where

@@ -1,5 +1,5 @@
 -- The tests decide: refused, both buffers are as they were, and past them both sides of the layer have the new rows.
-use mathlib.Core.Path.{_≡_, refl}
+use mathlib.Core.Path.{_≡_}
 use mathlib.Core.Bool.{true, _&&_}
 use Prim.Native.Nat.{_+_, _*_}
 use native.Mathlib.Nat.{le-refl, div-le-self}
@@ -13,7 +13,8 @@ use Rattle.shapes.specs.Buffers.{buffers}
 use Rattle.shapes.specs.Shape.{width, positions, limits}
 use Rattle.shapes.proofs.ShapeLaws.{width-in}
 use Rattle.buffers.specs.Calls.{sideOf, cellRow, scaleRow, appended, layerFits, wholeRows, appendRowsOf}
-use Rattle.buffers.proofs.FitLaws.{room-limits, layer-fits, layer-left, in-layer, whole-rows, both-sides}
+use Rattle.buffers.proofs.FitLaws.{room-limits, layer-fits, layer-left, in-layer, both-sides}
+use Rattle.buffers.proofs.RunLaws.{whole-rows}
 use Rattle.buffers.proofs.append_rows.Statement.{statement}
 use Rattle.buffers.proofs.append_rows.Tie as tie
 
@@ -83,12 +84,12 @@ returns-2 c = rw (failed (tested (c .before)) (c .if2 .taken))
 put-positions-requires : tie.Need-put-positions-requires
 put-positions-requires c κs =
     let x = fits (c .before .before) in
-    (in-layer _ _ _ _ (x .0) (omega arith) (le-refl _) (search needs) (search needs), x .1)
+    (in-layer _ _ _ _ (x .0) (omega arith) (le-refl _) (search needs) (search needs), search x)
 
 put-positions-requires-2 : tie.Need-put-positions-requires-2
 put-positions-requires-2 c κs =
     let x = fits (c .before .before .before .before .before .before .before .before .before) in
-    (in-layer _ _ _ _ (x .0) (omega arith) (le-refl _) (search needs) (search needs), x .2)
+    (in-layer _ _ _ _ (x .0) (omega arith) (le-refl _) (search needs) (search needs), search x)
 
 same-length : tie.Need-same-length
 same-length c = search needs

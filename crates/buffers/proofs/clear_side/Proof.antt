@@ -1,13 +1,12 @@
 -- The heads passed have their zeros, and each turn lends the positions of one head.
-use mathlib.Core.Path.{refl}
-use Prim.Native.Nat.{_+_, _-_, _*_}
+use Prim.Native.Nat.{_-_}
 use native.Mathlib.Omega.{arith}
 use borrow.Author.Count.{falls}
 use borrow.Author.Needs.{needs}
 use lib.ListN.{length, length-replicate}
 use Rattle.shapes.specs.Shape.{bytesOf, wordsOf}
 use Rattle.buffers.specs.Write.{zeros}
-use Rattle.buffers.proofs.LoopLaws.{Heads, Ends, cells-small, words-small, cells-ends, words-ends, no-heads, heads-done, head-turn, zeros-lent}
+use Rattle.buffers.proofs.LoopLaws.{Heads, BlockIn, cells-small, words-small, block-in, no-heads, heads-done, head-turn, zeros-lent}
 use Rattle.buffers.proofs.clear_side.Statement.{statement}
 use Rattle.buffers.proofs.clear_side.Tie as tie
 
@@ -24,25 +23,15 @@ abbrev start : tie.At-loop Inv-loop μ-loop → tie.Start Inv-loop μ-loop
 start c = c .before .before .before .before .before .before .before .before
 
 -- the head's positions in each buffer
-cells-at : (c : tie.Then1 Inv-loop μ-loop)
+block : (c : tie.Then1 Inv-loop μ-loop)
     → let l = c .before .before in
     let a = start l .args in
-    let first = l .before .before .before .before .before .span-of .result in
-    let d = l .loop .h * (a .shape .capacity * l .before .before .before .cell-bytes .result) in
-    Ends (bytesOf (a .shape)) (a .shape) (a .layer) (a .side) (l .loop .h) (a .p) (a .n) (length (l .loop .cells)) (first .«cells_from» + d) (first .«cells_to» + d)
-cells-at c =
+    BlockIn (a .shape) (a .layer) (a .side) (l .loop .h) (a .p) (a .n) (l .before .before .before .cell-bytes .result) (l .before .scale-words .result)
+    (l .before .before .before .before .before .span-of .result) (length (l .loop .cells)) (length (l .loop .scales))
+block c =
     let l = c .before .before in
-    cells-ends (start l .pre) (c .if1 .taken) (l .before .before .before .before .before .span-of .ensures) (l .before .before .before .cell-bytes .ensures) (l .loop .inv .0 .kept)
-
-words-at : (c : tie.Then1 Inv-loop μ-loop)
-    → let l = c .before .before in
-    let a = start l .args in
-    let first = l .before .before .before .before .before .span-of .result in
-    let d = l .loop .h * (a .shape .capacity * l .before .scale-words .result) in
-    Ends (wordsOf (a .shape)) (a .shape) (a .layer) (a .side) (l .loop .h) (a .p) (a .n) (length (l .loop .scales)) (first .«scales_from» + d) (first .«scales_to» + d)
-words-at c =
-    let l = c .before .before in
-    words-ends (start l .pre) (c .if1 .taken) (l .before .before .before .before .before .span-of .ensures) (l .before .scale-words .ensures) (l .loop .inv .1 .kept)
+    block-in (start l .pre) (c .if1 .taken) (l .before .before .before .before .before .span-of .ensures) (l .before .before .before .cell-bytes .ensures) (l .before .scale-words .ensures)
+    (l .loop .inv .0 .kept) (l .loop .inv .1 .kept)
 
 span-of-requires : tie.Need-span-of-requires Inv-loop μ-loop
 span-of-requires c κs = search needs
@@ -72,46 +61,46 @@ cast-if1 : tie.Need-cast-if1 Inv-loop μ-loop
 cast-if1 c = search needs
 
 mul-a : tie.Need-mul-a Inv-loop μ-loop
-mul-a c = omega (arith, cells-at c)
+mul-a c = omega (arith, block c)
 
 mul-b : tie.Need-mul-b Inv-loop μ-loop
-mul-b c = omega (arith, words-at c)
+mul-b c = omega (arith, block c)
 
 add-zero-cells : tie.Need-add-zero-cells Inv-loop μ-loop
-add-zero-cells c = omega (arith, cells-at (c .before))
+add-zero-cells c = omega (arith, block (c .before))
 
 add-zero-cells-2 : tie.Need-add-zero-cells-2 Inv-loop μ-loop
-add-zero-cells-2 c = omega (arith, cells-at (c .before .before))
+add-zero-cells-2 c = omega (arith, block (c .before .before))
 
 sub-zero-cells : tie.Need-sub-zero-cells Inv-loop μ-loop
-sub-zero-cells c = omega (arith, cells-at (c .before .before))
+sub-zero-cells c = omega (arith, block (c .before .before))
 
 part-zero-cells-start : tie.Need-part-zero-cells-start Inv-loop μ-loop
-part-zero-cells-start c = omega (arith, cells-at (c .before .before))
+part-zero-cells-start c = omega (arith, block (c .before .before))
 
 part-zero-cells-end : tie.Need-part-zero-cells-end Inv-loop μ-loop
-part-zero-cells-end c = omega (arith, cells-at (c .before .before))
+part-zero-cells-end c = omega (arith, block (c .before .before))
 
 zero-cells-requires : tie.Need-zero-cells-requires Inv-loop μ-loop
 zero-cells-requires c κs = search needs
 
 add-zero-words : tie.Need-add-zero-words Inv-loop μ-loop
-add-zero-words c = omega (arith, words-at (c .before .before .before .before .before .before .before))
+add-zero-words c = omega (arith, block (c .before .before .before .before .before .before .before))
 
 add-zero-words-2 : tie.Need-add-zero-words-2 Inv-loop μ-loop
-add-zero-words-2 c = omega (arith, words-at (c .before .before .before .before .before .before .before .before))
+add-zero-words-2 c = omega (arith, block (c .before .before .before .before .before .before .before .before))
 
 mul-zero-words : tie.Need-mul-zero-words Inv-loop μ-loop
-mul-zero-words c = omega (arith, words-at (c .before .before .before .before .before .before .before .before))
+mul-zero-words c = omega (arith, block (c .before .before .before .before .before .before .before .before))
 
 sub-zero-words : tie.Need-sub-zero-words Inv-loop μ-loop
-sub-zero-words c = omega (arith, words-at (c .before .before .before .before .before .before .before .before))
+sub-zero-words c = omega (arith, block (c .before .before .before .before .before .before .before .before))
 
 part-zero-words-start : tie.Need-part-zero-words-start Inv-loop μ-loop
-part-zero-words-start c = omega (arith, words-at (c .before .before .before .before .before .before .before .before))
+part-zero-words-start c = omega (arith, block (c .before .before .before .before .before .before .before .before))
 
 part-zero-words-end : tie.Need-part-zero-words-end Inv-loop μ-loop
-part-zero-words-end c = omega (arith, words-at (c .before .before .before .before .before .before .before .before))
+part-zero-words-end c = omega (arith, block (c .before .before .before .before .before .before .before .before))
 
 zero-words-requires : tie.Need-zero-words-requires Inv-loop μ-loop
 zero-words-requires c κs = search needs
@@ -127,8 +116,8 @@ loop-again c =
     let k = c .before .before .before .before .before .before .before .before .before .before .before .before in
     let l = k .before .before in
     let w = k .if1 .taken in (
-      head-turn (l .loop .inv .0) (λ h v i u. length-replicate _ 0) w (cells-at k) (zeros-lent _ (cells-at k) (c .before .before .before .before .before .before .before .before .zero-cells .ensures)),
-      head-turn (l .loop .inv .1) (λ h v i u. length-replicate _ 0) w (words-at k) (zeros-lent _ (words-at k) (c .before .before .zero-words .ensures)),
+      head-turn (l .loop .inv .0) (λ h v i u. length-replicate _ 0) w (block k .cells-at) (zeros-lent _ (block k .cells-at) (c .before .before .before .before .before .before .before .before .zero-cells .ensures)),
+      head-turn (l .loop .inv .1) (λ h v i u. length-replicate _ 0) w (block k .words-at) (zeros-lent _ (block k .words-at) (c .before .before .zero-words .ensures)),
     )
 
 same-length : tie.Need-same-length Inv-loop μ-loop

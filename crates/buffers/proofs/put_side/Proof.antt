@@ -1,6 +1,6 @@
 -- The heads passed have their rows, and each turn lends the positions of one head.
 use mathlib.Core.Path.{refl, _∙_}
-use Prim.Native.Nat.{_+_, _-_, _*_}
+use Prim.Native.Nat.{_-_}
 use native.Mathlib.Omega.{arith}
 use borrow.Author.Count.{falls}
 use borrow.Author.Needs.{needs}
@@ -9,7 +9,7 @@ use Rattle.lists.proofs.Part.{lent-count}
 use Rattle.shapes.specs.Shape.{bytesOf, wordsOf}
 use Rattle.buffers.specs.Calls.{cellRow, scaleRow}
 use Rattle.buffers.proofs.RunLaws.{cell-rows, scale-rows}
-use Rattle.buffers.proofs.LoopLaws.{Heads, Ends, cells-small, words-small, cells-ends, words-ends, no-heads, heads-done, head-turn}
+use Rattle.buffers.proofs.LoopLaws.{Heads, BlockIn, cells-small, words-small, block-in, no-heads, heads-done, head-turn}
 use Rattle.buffers.proofs.put_side.Statement.{statement}
 use Rattle.buffers.proofs.put_side.Tie as tie
 
@@ -26,25 +26,15 @@ abbrev start : tie.At-loop Inv-loop μ-loop → tie.Start Inv-loop μ-loop
 start c = c .before .before .before .before .before .before .before .before .before
 
 -- the head's positions in each buffer
-cells-at : (c : tie.Then1 Inv-loop μ-loop)
+block : (c : tie.Then1 Inv-loop μ-loop)
     → let l = c .before .before in
     let a = start l .args in
-    let first = l .before .before .before .before .before .span-of .result in
-    let d = l .loop .h * (a .shape .capacity * l .before .before .before .cell-bytes .result) in
-    Ends (bytesOf (a .shape)) (a .shape) (a .layer) (a .side) (l .loop .h) (a .p) (a .n) (length (l .loop .cells)) (first .«cells_from» + d) (first .«cells_to» + d)
-cells-at c =
+    BlockIn (a .shape) (a .layer) (a .side) (l .loop .h) (a .p) (a .n) (l .before .before .before .cell-bytes .result) (l .before .scale-words .result)
+    (l .before .before .before .before .before .span-of .result) (length (l .loop .cells)) (length (l .loop .scales))
+block c =
     let l = c .before .before in
-    cells-ends (start l .pre .0) (c .if1 .taken) (l .before .before .before .before .before .span-of .ensures) (l .before .before .before .cell-bytes .ensures) (l .loop .inv .0 .kept)
-
-words-at : (c : tie.Then1 Inv-loop μ-loop)
-    → let l = c .before .before in
-    let a = start l .args in
-    let first = l .before .before .before .before .before .span-of .result in
-    let d = l .loop .h * (a .shape .capacity * l .before .scale-words .result) in
-    Ends (wordsOf (a .shape)) (a .shape) (a .layer) (a .side) (l .loop .h) (a .p) (a .n) (length (l .loop .scales)) (first .«scales_from» + d) (first .«scales_to» + d)
-words-at c =
-    let l = c .before .before in
-    words-ends (start l .pre .0) (c .if1 .taken) (l .before .before .before .before .before .span-of .ensures) (l .before .scale-words .ensures) (l .loop .inv .1 .kept)
+    block-in (start l .pre .0) (c .if1 .taken) (l .before .before .before .before .before .span-of .ensures) (l .before .before .before .cell-bytes .ensures) (l .before .scale-words .ensures)
+    (l .loop .inv .0 .kept) (l .loop .inv .1 .kept)
 
 span-of-requires : tie.Need-span-of-requires Inv-loop μ-loop
 span-of-requires c κs = search needs
@@ -74,43 +64,43 @@ cast-if1 : tie.Need-cast-if1 Inv-loop μ-loop
 cast-if1 c = search needs
 
 mul-a : tie.Need-mul-a Inv-loop μ-loop
-mul-a c = omega (arith, cells-at c)
+mul-a c = omega (arith, block c)
 
 mul-b : tie.Need-mul-b Inv-loop μ-loop
-mul-b c = omega (arith, words-at c)
+mul-b c = omega (arith, block c)
 
 add-put-rows : tie.Need-add-put-rows Inv-loop μ-loop
-add-put-rows c = omega (arith, cells-at (c .before))
+add-put-rows c = omega (arith, block (c .before))
 
 add-put-rows-2 : tie.Need-add-put-rows-2 Inv-loop μ-loop
-add-put-rows-2 c = omega (arith, cells-at (c .before .before))
+add-put-rows-2 c = omega (arith, block (c .before .before))
 
 sub-put-rows : tie.Need-sub-put-rows Inv-loop μ-loop
-sub-put-rows c = omega (arith, cells-at (c .before .before))
+sub-put-rows c = omega (arith, block (c .before .before))
 
 part-put-rows-start : tie.Need-part-put-rows-start Inv-loop μ-loop
-part-put-rows-start c = omega (arith, cells-at (c .before .before))
+part-put-rows-start c = omega (arith, block (c .before .before))
 
 part-put-rows-end : tie.Need-part-put-rows-end Inv-loop μ-loop
-part-put-rows-end c = omega (arith, cells-at (c .before .before))
+part-put-rows-end c = omega (arith, block (c .before .before))
 
 add-put-rows-3 : tie.Need-add-put-rows-3 Inv-loop μ-loop
-add-put-rows-3 c = omega (arith, words-at (c .before .before .before .before))
+add-put-rows-3 c = omega (arith, block (c .before .before .before .before))
 
 add-put-rows-4 : tie.Need-add-put-rows-4 Inv-loop μ-loop
-add-put-rows-4 c = omega (arith, words-at (c .before .before .before .before .before))
+add-put-rows-4 c = omega (arith, block (c .before .before .before .before .before))
 
 mul-put-rows : tie.Need-mul-put-rows Inv-loop μ-loop
-mul-put-rows c = omega (arith, words-at (c .before .before .before .before .before))
+mul-put-rows c = omega (arith, block (c .before .before .before .before .before))
 
 sub-put-rows-2 : tie.Need-sub-put-rows-2 Inv-loop μ-loop
-sub-put-rows-2 c = omega (arith, words-at (c .before .before .before .before .before))
+sub-put-rows-2 c = omega (arith, block (c .before .before .before .before .before))
 
 part-put-rows-start-2 : tie.Need-part-put-rows-start-2 Inv-loop μ-loop
-part-put-rows-start-2 c = omega (arith, words-at (c .before .before .before .before .before))
+part-put-rows-start-2 c = omega (arith, block (c .before .before .before .before .before))
 
 part-put-rows-end-2 : tie.Need-part-put-rows-end-2 Inv-loop μ-loop
-part-put-rows-end-2 c = omega (arith, words-at (c .before .before .before .before .before))
+part-put-rows-end-2 c = omega (arith, block (c .before .before .before .before .before))
 
 put-rows-requires : tie.Need-put-rows-requires Inv-loop μ-loop
 put-rows-requires c κs =
@@ -121,8 +111,8 @@ put-rows-requires c κs =
       head = k .if1 .taken;
       span = omega (arith, a .0 .span);
       numbers-size = a .1;
-      cell-size = c .before .before .before .put-rows-arg .given .2 ∙ lent-count _ (cells-at k .count) refl;
-      scale-size = c .put-rows-arg2 .given .2 ∙ lent-count _ (words-at k .count) refl;
+      cell-size = c .before .before .before .put-rows-arg .given .2 ∙ lent-count _ (block k .cells-at .count) refl;
+      scale-size = c .put-rows-arg2 .given .2 ∙ lent-count _ (block k .words-at .count) refl;
     }
 
 add-h : tie.Need-add-h Inv-loop μ-loop
@@ -137,8 +127,8 @@ loop-again c =
     let l = k .before .before in
     let a = start l .pre in
     let y = c .before .before .before .before .put-rows .ensures in (
-      head-turn (l .loop .inv .0) (cell-rows _ _ (a .0 .in-limits) _ (a .1)) (k .if1 .taken) (cells-at k) (y .0),
-      head-turn (l .loop .inv .1) (scale-rows _ _ (a .0 .in-limits) _ (a .1)) (k .if1 .taken) (words-at k) (y .1),
+      head-turn (l .loop .inv .0) (cell-rows _ _ (a .0 .in-limits) _ (a .1)) (k .if1 .taken) (block k .cells-at) (y .0),
+      head-turn (l .loop .inv .1) (scale-rows _ _ (a .0 .in-limits) _ (a .1)) (k .if1 .taken) (block k .words-at) (y .1),
     )
 
 same-length : tie.Need-same-length Inv-loop μ-loop
