@@ -15,7 +15,7 @@ use Rattle.rows.proofs.FitLaws.{fits-facts}
 use Rattle.attention.specs.Order.{Scoring, scoringOf, rowDot, scoresOf}
 use Rattle.attention.specs.Block.{blockScores}
 use Rattle.attention.specs.Fits.{ScoredRows, IsF32, IsInt4}
-use Rattle.attention.proofs.BlockLaws.{f32-row, int4-row}
+use Rattle.attention.proofs.ScoringLaws.{f32-row, int4-row}
 use Rattle.attention.proofs.PartLaws.{part-rows}
 
 -- row i of four, as one row of a part

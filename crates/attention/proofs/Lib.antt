@@ -1,4 +1,4 @@
-pub mod BlockLaws
 pub mod FourLaws
 pub mod OrderLaws
 pub mod PartLaws
+pub mod ScoringLaws

@@ -59,12 +59,7 @@ rows-small h w e = rw e (mul-le-mul h w)
 abbrev pub RowFits : ℕ → ℕ → ℕ → ℕ → Type 0
 RowFits format d cells scales = RowsFit format d 1 cells scales
 
--- a row of m that fit, and a row of a shape
-pub row-of : {format d m cells scales x y : ℕ} → RowsFit format d m cells scales → x ≡ cellBytes format d → y ≡ scaleWords format d
-    → RowFits format d x y
-row-of h c w =
-    record { known = h .known; small = h .small; few = omega arith; whole = h .whole; cell-bytes = rw one-mul c; scale-words = rw one-mul w }
-
+-- a row of a shape
 pub shape-fits : (s : Shape) {d cells scales : ℕ} → limits s ≡ true → d ≡ headSize s → cells ≡ bytesOf s → scales ≡ wordsOf s
     → RowFits (s .format) d cells scales
 shape-fits s h e c w =

@@ -1,5 +1,7 @@
 // The scores of four rows at once: a running sum for each, in the order of its own row.
+use crate::rest::cells_of;
 use crate::rest::number_at;
+use crate::rest::scales_of;
 use crate::words::four_int4;
 use numbers::words::f32_to_word;
 ghost use mathlib.Core.Path.{_≡_};
@@ -7,7 +9,6 @@ ghost use mathlib.Core.List.{[], _∷_};
 ghost use Prim.Native.Nat.{_+_, _*_, _≤_};
 ghost use lib.ListN.{length};
 ghost use lib.Ieee.{binary32, add, mul};
-ghost use Rattle.lists.specs.Chunks.{part};
 ghost use Rattle.numbers.specs.Word.{float, word};
 ghost use Rattle.rows.specs.Row.{f32At};
 ghost use Rattle.shapes.specs.Buffers.{buffers};
@@ -71,24 +72,6 @@ pub(crate) fn put_four(s: Four, out: &mut [u32])
     out[1] = f32_to_word(s.s1);
     out[2] = f32_to_word(s.s2);
     out[3] = f32_to_word(s.s3);
-}
-
-// The cells of `n` rows from row `p` on, where a row has `c`.
-pub(crate) fn cells_of(cells: &[u8], c: usize, p: usize, n: usize) -> &[u8]
-    requires { ⌜ p * c + n * c ≤ length (now cells) ⌝ }
-    ensures { λ r. ⌜ now r ≡ part (p * c) (n * c) (now (cells .entry)) ⌝ }
-{
-    let a = p * c;
-    &cells[a..a + n * c]
-}
-
-// Their scale words, where a row has `w`.
-pub(crate) fn scales_of(scales: &[u32], w: usize, p: usize, n: usize) -> &[u32]
-    requires { ⌜ p * w + n * w ≤ length (now scales) ⌝ }
-    ensures { λ r. ⌜ now r ≡ part (p * w) (n * w) (now (scales .entry)) ⌝ }
-{
-    let b = p * w;
-    &scales[b..b + n * w]
 }
 
 fn four_f32(query: &[f32], scale: f32, r0: &[u8], r1: &[u8], r2: &[u8], r3: &[u8]) -> Four

@@ -4,10 +4,10 @@ pub(crate) mod rest;
 pub(crate) mod words;
 
 use attention::block_fits;
-use fours::cells_of;
 use fours::put_four;
-use fours::scales_of;
 use fours::score_four;
+use rest::cells_of;
+use rest::scales_of;
 use rest::score_rest;
 use shapes::cell_bytes;
 use shapes::scale_words;
@@ -18,7 +18,7 @@ ghost use lib.ListN.{length, drop};
 ghost use Rattle.shapes.specs.Buffers.{buffers};
 ghost use Rattle.replies.specs.Tried.{tells};
 ghost use Rattle.attention.specs.Block.{blockScores, blockScoresOf};
-ghost use Rattle.attention.specs.Fits.{ScoredRows};
+ghost use Rattle.attention.specs.Fits.{ScoredRows, SizedRows};
 
 // Scores as many positions as `out` has places, under a query, and answers whether what is lent is such a block. The first half of the Rust's `decode_head_attention_f32` and `decode_head_attention_int4`.
 pub fn block_scores(
@@ -51,14 +51,16 @@ fn score_rows(format: u32, query: &[f32], scale: f32, cells: &[u8], scales: &[u3
         ≡ blockScores format (now (query .entry)) scale (buffers (now (cells .entry)) (now (scales .entry))) (length (now (out .entry)))
         ⌝ }
 {
-    let p = score_fours(format, query, scale, cells, scales, out);
     let c = cell_bytes(format, query.len() as u32);
     let w = scale_words(format, query.len() as u32);
+    let p = score_fours(format, query, scale, c, w, cells, scales, out);
     let n = out.len() - p;
     score_rest(
         format,
         query,
         scale,
+        c,
+        w,
         cells_of(cells, c, p, n),
         scales_of(scales, w, p, n),
         &mut out[p..],
@@ -70,11 +72,13 @@ fn score_fours(
     format: u32,
     query: &[f32],
     scale: f32,
+    c: usize,
+    w: usize,
     cells: &[u8],
     scales: &[u32],
     out: &mut [u32],
 ) -> usize
-    requires { ⌜ ScoredRows format (length (now query)) (length (now out)) (length (now cells)) (length (now scales)) ⌝ }
+    requires { ⌜ SizedRows format (length (now query)) (length (now out)) c w (length (now cells)) (length (now scales)) ⌝ }
     ensures within { λ r. ⌜ r ≤ length (now (out .entry)) ⌝ }
     ensures scored { λ r.
         ⌜
@@ -82,8 +86,6 @@ fn score_fours(
         ≡ blockScores format (now (query .entry)) scale (buffers (now (cells .entry)) (now (scales .entry))) r ++ drop r (now (out .entry))
         ⌝ }
 {
-    let c = cell_bytes(format, query.len() as u32);
-    let w = scale_words(format, query.len() as u32);
     let mut p = 0;
     while 4 <= out.len() - p {
         let s = score_four(

@@ -3,44 +3,61 @@ use decode::word_of;
 use numbers::codes::less_8;
 use numbers::words::f32_to_word;
 use numbers::words::word_to_f32;
-use shapes::cell_bytes;
-use shapes::scale_words;
 ghost use mathlib.Core.Path.{_≡_};
 ghost use Prim.Native.Nat.{_+_, _*_, _≤_};
 ghost use lib.ListN.{length};
 ghost use lib.Ieee.{binary32, mul};
+ghost use Rattle.lists.specs.Chunks.{part};
 ghost use Rattle.numbers.specs.Word.{float};
 ghost use Rattle.shapes.specs.Buffers.{buffers};
 ghost use Rattle.rows.specs.Row.{f32At};
 ghost use Rattle.attention.specs.Block.{blockScores};
 ghost use Rattle.attention.specs.Order.{f32Dot, groupDot, int4Dot, rowDot};
-ghost use Rattle.attention.specs.Fits.{ScoredRows, IsF32, IsInt4};
+ghost use Rattle.attention.specs.Fits.{ScoredRows, SizedRows, IsF32, IsInt4};
 
+// Scores each row, where a row has `c` cells and `w` scale words.
 pub(crate) fn score_rest(
     format: u32,
     query: &[f32],
     scale: f32,
+    c: usize,
+    w: usize,
     cells: &[u8],
     scales: &[u32],
     out: &mut [u32],
 )
-    requires { ⌜ ScoredRows format (length (now query)) (length (now out)) (length (now cells)) (length (now scales)) ⌝ }
+    requires { ⌜ SizedRows format (length (now query)) (length (now out)) c w (length (now cells)) (length (now scales)) ⌝ }
     ensures { λ _.
         ⌜
         now (out .exit)
         ≡ blockScores format (now (query .entry)) scale (buffers (now (cells .entry)) (now (scales .entry))) (length (now (out .entry)))
         ⌝ }
 {
-    let c = cell_bytes(format, query.len() as u32);
-    let w = scale_words(format, query.len() as u32);
     let mut p = 0;
     while p < out.len() {
-        let a = p * c;
-        let b = p * w;
-        let score = score_row(format, query, scale, &cells[a..a + c], &scales[b..b + w]);
-        out[p] = f32_to_word(score);
+        let row = cells_of(cells, c, p, 1);
+        let words = scales_of(scales, w, p, 1);
+        out[p] = f32_to_word(score_row(format, query, scale, row, words));
         p += 1;
     }
+}
+
+// The cells of `n` rows from row `p` on, where a row has `c`.
+pub(crate) fn cells_of(cells: &[u8], c: usize, p: usize, n: usize) -> &[u8]
+    requires { ⌜ p * c + n * c ≤ length (now cells) ⌝ }
+    ensures { λ r. ⌜ now r ≡ part (p * c) (n * c) (now (cells .entry)) ⌝ }
+{
+    let a = p * c;
+    &cells[a..a + n * c]
+}
+
+// Their scale words, where a row has `w`.
+pub(crate) fn scales_of(scales: &[u32], w: usize, p: usize, n: usize) -> &[u32]
+    requires { ⌜ p * w + n * w ≤ length (now scales) ⌝ }
+    ensures { λ r. ⌜ now r ≡ part (p * w) (n * w) (now (scales .entry)) ⌝ }
+{
+    let b = p * w;
+    &scales[b..b + n * w]
 }
 
 fn score_row(format: u32, query: &[f32], scale: f32, cells: &[u8], scales: &[u32]) -> f32

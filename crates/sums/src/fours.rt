@@ -1,5 +1,6 @@
 // The terms of four F32 rows at once, where they have no NaN.
 use crate::rest::add_rest;
+use crate::rest::cells_of;
 use crate::stored::nan_at;
 use crate::stored::nans;
 use crate::stored::plain_at;
@@ -8,7 +9,7 @@ ghost use mathlib.Core.Bool.{false, cond};
 ghost use Prim.Native.Nat.{_+_, _*_, _≤_};
 ghost use lib.ListN.{length};
 ghost use lib.Ieee.{binary32, add, nanBits};
-ghost use Rattle.lists.specs.Chunks.{turns, some, part};
+ghost use Rattle.lists.specs.Chunks.{turns, some};
 ghost use Rattle.shapes.specs.Buffers.{buffers};
 ghost use Rattle.rows.specs.Row.{f32At};
 ghost use Rattle.attention.specs.Order.{f32Term, added};
@@ -81,15 +82,6 @@ fn add_four(
     }
     add_rest(0, weights, cells, scales, out);
     nans(next, 4 * out.len())
-}
-
-// The cells of `n` rows from row `p` on, where a row has `c`.
-fn cells_of(cells: &[u8], c: usize, p: usize, n: usize) -> &[u8]
-    requires { ⌜ p * c + n * c ≤ length (now cells) ⌝ }
-    ensures { λ r. ⌜ now r ≡ part (p * c) (n * c) (now (cells .entry)) ⌝ }
-{
-    let a = p * c;
-    &cells[a..a + n * c]
 }
 
 // Four F32 rows without a NaN: each sum takes their terms in order, while the NaNs of the next four rows are counted.

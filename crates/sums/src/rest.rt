@@ -5,9 +5,10 @@ use numbers::words::word_to_f32;
 use shapes::cell_bytes;
 use shapes::scale_words;
 ghost use mathlib.Core.Path.{_≡_};
+ghost use Prim.Native.Nat.{_+_, _*_, _≤_};
 ghost use lib.ListN.{length};
 ghost use lib.Ieee.{binary32, mul};
-ghost use Rattle.lists.specs.Chunks.{turns};
+ghost use Rattle.lists.specs.Chunks.{turns, part};
 ghost use Rattle.shapes.specs.Buffers.{buffers};
 ghost use Rattle.attention.specs.Order.{groupCode, f32Term, int4Term, rowTerm, added};
 ghost use Rattle.attention.specs.Block.{blockTerm};
@@ -28,11 +29,29 @@ pub(crate) fn add_rest(format: u32, weights: &[f32], cells: &[u8], scales: &[u32
     let w = scale_words(format, out.len() as u32);
     let mut p = 0;
     while p < weights.len() {
-        let a = p * c;
-        let b = p * w;
-        add_row(format, weights[p], &cells[a..a + c], &scales[b..b + w], out);
+        let row = cells_of(cells, c, p, 1);
+        let words = scales_of(scales, w, p, 1);
+        add_row(format, weights[p], row, words, out);
         p += 1;
     }
+}
+
+// The cells of `n` rows from row `p` on, where a row has `c`.
+pub(crate) fn cells_of(cells: &[u8], c: usize, p: usize, n: usize) -> &[u8]
+    requires { ⌜ p * c + n * c ≤ length (now cells) ⌝ }
+    ensures { λ r. ⌜ now r ≡ part (p * c) (n * c) (now (cells .entry)) ⌝ }
+{
+    let a = p * c;
+    &cells[a..a + n * c]
+}
+
+// Their scale words, where a row has `w`.
+fn scales_of(scales: &[u32], w: usize, p: usize, n: usize) -> &[u32]
+    requires { ⌜ p * w + n * w ≤ length (now scales) ⌝ }
+    ensures { λ r. ⌜ now r ≡ part (p * w) (n * w) (now (scales .entry)) ⌝ }
+{
+    let b = p * w;
+    &scales[b..b + n * w]
 }
 
 fn add_row(format: u32, weight: f32, cells: &[u8], scales: &[u32], out: &mut [f32])

@@ -2,7 +2,7 @@
 use mathlib.Core.Path.{sym, ap}
 use native.Mathlib.Omega.{arith}
 use Rattle.attention.specs.Order.{Scoring, scorings, hasScores}
-use Rattle.attention.proofs.BlockLaws.{no-scoring}
+use Rattle.attention.proofs.ScoringLaws.{no-scoring}
 use Rattle.attention.proofs.has_scores.Statement.{statement}
 use Rattle.attention.proofs.has_scores.Tie as tie
 

@@ -1,13 +1,12 @@
 -- The scores passed are those of the rows passed, and what is left is as it was.
 use mathlib.Core.Path.{_≡_, refl, _∙_}
 use mathlib.Core.List.{_++_}
-use Prim.Native.Nat.{_+_, _-_, _*_, _≤_}
+use Prim.Native.Nat.{_+_, _-_, _≤_}
 use native.Mathlib.Omega.{arith}
 use borrow.Author.Needs.{needs}
 use lib.ListN.{length, drop}
 use Rattle.lists.specs.Chunks.{tab}
 use Rattle.lists.proofs.Tab.{tab-lent}
-use Rattle.rows.proofs.FitLaws.{fits-facts}
 use Rattle.attention.specs.Order.{scoresOf}
 use Rattle.attention.specs.Block.{blockScores}
 use Rattle.attention.proofs.PartLaws.{scoreAt, part-inside, part-rows, part-scores}
@@ -15,35 +14,11 @@ use Rattle.scores.proofs.score_fours.Statement.{statement}
 use Rattle.scores.proofs.score_fours.Tie as tie
 
 abbrev Inv-loop : tie.InvT-loop
-Inv-loop format query scale cells scales out₀ c w p₀ out p =
+Inv-loop format query scale r v cells scales out₀ p₀ out p =
     (p ≤ length out₀) × (out ≡ tab p (scoreAt format query scale cells scales) ++ drop p out₀) × (length out ≡ length out₀)
 
 abbrev μ-loop : tie.MeasureT-loop
-μ-loop format query scale cells scales out₀ c w p₀ out p = length out₀ - p
-
--- four rows lie in the cells and in the scale words
-inside : (c : tie.In-loop Inv-loop μ-loop)
-    → let args = c .before .before .before .before .before .before .before .before .args in
-    let p = c .before .loop .p in
-    let r = c .before .before .before .cell-bytes .result in
-    let v = c .before .before .scale-words .result in
-    (p * r + 4 * r ≤ length (args .cells .now)) × (p * v + 4 * v ≤ length (args .scales .now))
-inside c =
-    let start = c .before .before .before .before .before .before .before .before in
-    part-inside _ _ _ (start .args .cells .now) (start .args .scales .now) (start .pre) (c .before .loop .p) 4 (omega arith)
-    (c .before .before .before .cell-bytes .ensures) (c .before .before .scale-words .ensures)
-
-cast-cell-bytes : tie.Need-cast-cell-bytes Inv-loop μ-loop
-cast-cell-bytes c = omega (arith, fits-facts ((c .before .before .before .before .pre) .1) .small)
-
-cell-bytes-requires : tie.Need-cell-bytes-requires Inv-loop μ-loop
-cell-bytes-requires c κs = search needs
-
-cast-scale-words : tie.Need-cast-scale-words Inv-loop μ-loop
-cast-scale-words c = omega (arith, fits-facts ((c .before .before .before .before .before .pre) .1) .small)
-
-scale-words-requires : tie.Need-scale-words-requires Inv-loop μ-loop
-scale-words-requires c κs = search needs
+μ-loop format query scale r v cells scales out₀ p₀ out p = length out₀ - p
 
 loop-holds : tie.Need-loop-holds Inv-loop μ-loop
 unfolding tab
@@ -53,17 +28,22 @@ sub-loop : tie.Need-sub-loop Inv-loop μ-loop
 sub-loop c = search needs
 
 cells-of-requires : tie.Need-cells-of-requires Inv-loop μ-loop
-cells-of-requires c κs = inside c .0
+cells-of-requires c κs =
+    let k = c .before in
+    let start = k .before .before .before .before .before in
+    part-inside _ _ _ (start .args .cells .now) (start .args .scales .now) (start .pre .0) (k .loop .p) 4 (omega arith) (start .pre .1) (start .pre .2) .0
 
 scales-of-requires : tie.Need-scales-of-requires Inv-loop μ-loop
-scales-of-requires c κs = inside (c .before) .1
+scales-of-requires c κs =
+    let k = c .before .before in
+    let start = k .before .before .before .before .before in
+    part-inside _ _ _ (start .args .cells .now) (start .args .scales .now) (start .pre .0) (k .loop .p) 4 (omega arith) (start .pre .1) (start .pre .2) .1
 
 score-four-requires : tie.Need-score-four-requires Inv-loop μ-loop
 score-four-requires c κs =
     let k = c .before .before .before in
-    let start = k .before .before .before .before .before .before .before in
-    part-rows _ _ _ (start .args .cells .now) (start .args .scales .now) (start .pre) (k .loop .p) 4 (omega arith)
-    (k .before .before .cell-bytes .ensures) (k .before .scale-words .ensures) refl (c .before .cells-of .ensures) (c .scales-of .ensures)
+    let start = k .before .before .before .before .before in
+    part-rows _ _ _ (start .args .cells .now) (start .args .scales .now) (start .pre .0) (k .loop .p) 4 (omega arith) (start .pre .1) (start .pre .2) refl (c .before .cells-of .ensures) (c .scales-of .ensures)
 
 add-put-four : tie.Need-add-put-four Inv-loop μ-loop
 add-put-four c = search needs
@@ -94,9 +74,10 @@ loop-again c =
     let four = c .before .before .before .before in
     let k = four .before .before .before .before in
     let p = k .loop .p in
-    let args = k .before .before .before .before .before .before .before .args in
+    let start = k .before .before .before .before .before in
+    let args = start .args in
     let scores = part-scores (args .format) (args .query .now) (args .scale) (args .cells .now) (args .scales .now) p 4
-    (k .before .before .cell-bytes .ensures) (k .before .scale-words .ensures) refl
+    (start .pre .1) (start .pre .2) refl
     (four .before .before .cells-of .ensures) (four .before .scales-of .ensures) in (
       omega arith,
       tab-lent p 4 _ (args .out .now) (k .loop .inv .1) refl (c .before .before .put-four .ensures ∙ four .score-four .ensures ∙ scores),
@@ -116,10 +97,6 @@ score-fours-spec =
     (tie.spec
     Inv-loop
     μ-loop
-    cast-cell-bytes
-    cell-bytes-requires
-    cast-scale-words
-    scale-words-requires
     loop-holds
     sub-loop
     cells-of-requires

@@ -3,7 +3,7 @@ use mathlib.Core.Path.{_≡_, refl}
 use native.Mathlib.Omega.{arith}
 use borrow.Author.Needs.{needs}
 use Rattle.attention.specs.Order.{scorings, scoringOf, f32Scoring, int4Scoring}
-use Rattle.attention.proofs.BlockLaws.{scored-other}
+use Rattle.attention.proofs.ScoringLaws.{scored-other}
 use Rattle.attention.proofs.FourLaws.{quarter-f32, quarter-int4, row-score, four-scores}
 use Rattle.scores.proofs.fours.score_four.Statement.{statement}
 use Rattle.scores.proofs.fours.score_four.Tie as tie

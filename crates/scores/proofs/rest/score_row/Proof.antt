@@ -1,7 +1,7 @@
 -- Each arm is a format that has scores, with the lengths that it has; no other is asked for.
 use native.Mathlib.Omega.{arith}
 use Rattle.attention.specs.Order.{scorings, rowDot}
-use Rattle.attention.proofs.BlockLaws.{f32-row, int4-row, scored-other}
+use Rattle.attention.proofs.ScoringLaws.{f32-row, int4-row, scored-other}
 use Rattle.scores.proofs.rest.score_row.Statement.{statement}
 use Rattle.scores.proofs.rest.score_row.Tie as tie
 

@@ -1,6 +1,7 @@
 -- The terms of the positions passed are added, in their order.
-use mathlib.Core.Path.{_≡_, refl, _∙_}
-use Prim.Native.Nat.{_+_, _-_, _*_, _≤_}
+use mathlib.Core.Path.{_≡_, refl}
+use Prim.Native.Nat.{_-_, _≤_}
+use native.Mathlib.Nat.{one-mul}
 use native.Mathlib.Omega.{arith}
 use borrow.Author.Needs.{needs}
 use lib.ListN.{length}
@@ -8,10 +9,9 @@ use Rattle.lists.specs.Chunks.{turns}
 use Rattle.lists.proofs.Turns.{turns-next}
 use Rattle.shapes.specs.Buffers.{buffers}
 use Rattle.rows.proofs.FitLaws.{fits-facts}
-use Rattle.lists.proofs.Part.{lent-count}
 use Rattle.attention.specs.Order.{added}
 use Rattle.attention.specs.Block.{blockTerm}
-use Rattle.attention.proofs.BlockLaws.{row-inside, row-lent, one-row}
+use Rattle.attention.proofs.PartLaws.{part-inside, part-rows}
 use Rattle.sums.proofs.rest.add_rest.Statement.{statement}
 use Rattle.sums.proofs.rest.add_rest.Tie as tie
 
@@ -23,17 +23,6 @@ Inv-loop format weights cells scales out₀ c w p₀ out p =
 
 abbrev μ-loop : tie.MeasureT-loop
 μ-loop format weights cells scales out₀ c w p₀ out p = length weights - p
-
--- the row lies in the cells and in the scale words
-inside : (c : tie.In-loop Inv-loop μ-loop)
-    → let start = c .before .before .before .before .before .before .before .before .args in
-    let p = c .before .loop .p in
-    let r = c .before .before .before .cell-bytes .result in
-    let v = c .before .before .scale-words .result in
-    (p * r + r ≤ length (start .cells .now)) × (p * v + v ≤ length (start .scales .now))
-inside c =
-    row-inside (fits-facts ((c .before .before .before .before .before .before .before .before .pre) .1))
-    (c .before .before .before .cell-bytes .ensures) (c .before .before .scale-words .ensures) (omega arith)
 
 cast-cell-bytes : tie.Need-cast-cell-bytes Inv-loop μ-loop
 cast-cell-bytes c = omega (arith, fits-facts ((c .before .before .before .before .pre) .1) .small)
@@ -51,11 +40,17 @@ loop-holds : tie.Need-loop-holds Inv-loop μ-loop
 unfolding turns
 loop-holds c = search needs
 
-mul-a : tie.Need-mul-a Inv-loop μ-loop
-mul-a c = omega (arith, inside c .0)
+cells-of-requires : tie.Need-cells-of-requires Inv-loop μ-loop
+cells-of-requires c κs =
+    let k = c .before in
+    let start = k .before .before .before .before .before .before .before in
+    part-inside _ _ _ (start .args .cells .now) (start .args .scales .now) (start .pre) (k .loop .p) 1 (omega arith) (k .before .before .cell-bytes .ensures) (k .before .scale-words .ensures) .0
 
-mul-b : tie.Need-mul-b Inv-loop μ-loop
-mul-b c = omega (arith, inside c .1)
+scales-of-requires : tie.Need-scales-of-requires Inv-loop μ-loop
+scales-of-requires c κs =
+    let k = c .before .before in
+    let start = k .before .before .before .before .before .before .before in
+    part-inside _ _ _ (start .args .cells .now) (start .args .scales .now) (start .pre) (k .loop .p) 1 (omega arith) (k .before .before .cell-bytes .ensures) (k .before .scale-words .ensures) .1
 
 mul-add-row : tie.Need-mul-add-row Inv-loop μ-loop
 mul-add-row c = search needs
@@ -63,40 +58,13 @@ mul-add-row c = search needs
 shared-slice-read-add-row : tie.Need-shared-slice-read-add-row Inv-loop μ-loop
 shared-slice-read-add-row c = search needs
 
-add-add-row : tie.Need-add-add-row Inv-loop μ-loop
-add-add-row c = omega (arith, inside (c .before) .0)
-
-sub-add-row : tie.Need-sub-add-row Inv-loop μ-loop
-sub-add-row c = search needs
-
-part-add-row-start : tie.Need-part-add-row-start Inv-loop μ-loop
-part-add-row-start c = search needs
-
-part-add-row-end : tie.Need-part-add-row-end Inv-loop μ-loop
-part-add-row-end c = inside (c .before) .0
-
-add-add-row-2 : tie.Need-add-add-row-2 Inv-loop μ-loop
-add-add-row-2 c = omega (arith, inside (c .before .before) .1)
-
-mul-add-row-2 : tie.Need-mul-add-row-2 Inv-loop μ-loop
-mul-add-row-2 c = omega (arith, inside (c .before .before) .1)
-
-sub-add-row-2 : tie.Need-sub-add-row-2 Inv-loop μ-loop
-sub-add-row-2 c = search needs
-
-part-add-row-start-2 : tie.Need-part-add-row-start-2 Inv-loop μ-loop
-part-add-row-start-2 c = search needs
-
-part-add-row-end-2 : tie.Need-part-add-row-end-2 Inv-loop μ-loop
-part-add-row-end-2 c = inside (c .before .before) .1
-
 add-row-requires : tie.Need-add-row-requires Inv-loop μ-loop
 add-row-requires c κs =
-    let k = c .before .before .before .before in
-    rw (k .before .loop .inv .2)
-    (one-row _ _ _ _ _ (k .before .before .before .before .before .before .before .before .pre)
-    (c .before .before .add-row-arg .given .2 ∙ lent-count _ refl (k .before .before .before .cell-bytes .ensures))
-    (c .before .add-row-arg2 .given .2 ∙ lent-count _ refl (k .before .before .scale-words .ensures)))
+    let k = c .before .before .before .before .before in
+    let start = k .before .before .before .before .before .before .before in
+    rw (k .loop .inv .2)
+    (part-rows _ _ _ (start .args .cells .now) (start .args .scales .now) (start .pre) (k .loop .p) 1 (omega arith) (k .before .before .cell-bytes .ensures) (k .before .scale-words .ensures) refl
+    (c .before .before .before .cells-of .ensures) (c .before .before .scales-of .ensures))
 
 add-p : tie.Need-add-p Inv-loop μ-loop
 add-p c = search needs
@@ -106,11 +74,15 @@ loop-less c = search needs
 
 loop-again : tie.Need-loop-again Inv-loop μ-loop
 loop-again c =
-    let k = c .before .before .before .before .before .before .before in
-    let start = k .before .before .before .before .before .before .before .before .args in
-    let row = row-lent _ (k .before .loop .p) (start .cells .now) (k .before .before .before .cell-bytes .ensures) refl in
-    let words = row-lent _ (k .before .loop .p) (start .scales .now) (k .before .before .scale-words .ensures) refl in
-    (omega arith, turns-next _ _ _ (k .before .loop .inv .1) (rw (← row, ← words) (c .before .before .add-row .ensures)), search needs)
+    let row = c .before .before in
+    let k = row .before .before .before .before .before .before in
+    let r = k .before .before .cell-bytes .ensures in
+    let v = k .before .scale-words .ensures in (
+      omega arith,
+      turns-next _ _ _ (k .loop .inv .1)
+          (rw (row .before .before .before .before .cells-of .ensures, row .before .before .before .scales-of .ensures, r, v, one-mul, one-mul) at (row .add-row .ensures)),
+      search needs,
+    )
 
 same-length : tie.Need-same-length Inv-loop μ-loop
 same-length c = search needs
@@ -131,19 +103,10 @@ add-rest-spec =
     cast-scale-words
     scale-words-requires
     loop-holds
-    mul-a
-    mul-b
+    cells-of-requires
+    scales-of-requires
     mul-add-row
     shared-slice-read-add-row
-    add-add-row
-    sub-add-row
-    part-add-row-start
-    part-add-row-end
-    add-add-row-2
-    mul-add-row-2
-    sub-add-row-2
-    part-add-row-start-2
-    part-add-row-end-2
     add-row-requires
     add-p
     loop-less

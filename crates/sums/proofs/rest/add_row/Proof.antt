@@ -2,7 +2,7 @@
 use native.Mathlib.Omega.{arith}
 use borrow.Author.Needs.{needs}
 use Rattle.attention.specs.Order.{scorings, rowTerm, added}
-use Rattle.attention.proofs.BlockLaws.{f32-row, int4-row, scored-other}
+use Rattle.attention.proofs.ScoringLaws.{f32-row, int4-row, scored-other}
 use Rattle.sums.proofs.rest.add_row.Statement.{statement}
 use Rattle.sums.proofs.rest.add_row.Tie as tie
 

@@ -1,8 +1,8 @@
 -- What is lent is as long as it is said to be.
 use native.Mathlib.Nat.{add-sub-cancel-left}
 use borrow.Author.Needs.{needs}
-use Rattle.scores.proofs.fours.cells_of.Statement.{statement}
-use Rattle.scores.proofs.fours.cells_of.Tie as tie
+use Rattle.sums.proofs.rest.cells_of.Statement.{statement}
+use Rattle.sums.proofs.rest.cells_of.Tie as tie
 
 mul-a : tie.Need-mul-a
 mul-a c = search needs

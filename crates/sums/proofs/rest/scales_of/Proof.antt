@@ -1,17 +1,20 @@
 -- What is lent is as long as it is said to be.
 use native.Mathlib.Nat.{add-sub-cancel-left}
 use borrow.Author.Needs.{needs}
-use Rattle.sums.proofs.fours.cells_of.Statement.{statement}
-use Rattle.sums.proofs.fours.cells_of.Tie as tie
+use Rattle.sums.proofs.rest.scales_of.Statement.{statement}
+use Rattle.sums.proofs.rest.scales_of.Tie as tie
 
-mul-a : tie.Need-mul-a
-mul-a c = search needs
+mul-b : tie.Need-mul-b
+mul-b c = search needs
 
 mul-result : tie.Need-mul-result
 mul-result c = search needs
 
 add-result : tie.Need-add-result
 add-result c = search needs
+
+mul-result-2 : tie.Need-mul-result-2
+mul-result-2 c = search needs
 
 sub-result : tie.Need-sub-result
 sub-result c = search needs
@@ -25,7 +28,15 @@ part-result-end c = search needs
 returns : tie.Need-returns
 returns c = rw add-sub-cancel-left
 
-pub cells-of-spec : {M : Type 1} → statement M
-cells-of-spec =
+pub scales-of-spec : {M : Type 1} → statement M
+scales-of-spec =
     tie.close
-    (tie.spec mul-a mul-result add-result sub-result part-result-start part-result-end returns)
+    (tie.spec
+    mul-b
+    mul-result
+    add-result
+    mul-result-2
+    sub-result
+    part-result-start
+    part-result-end
+    returns)

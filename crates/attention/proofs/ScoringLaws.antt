@@ -1,0 +1,33 @@
+-- Formats that have scores and sums: the lengths of a row in each, and that there is no other.
+-- Each holds by the lines of the table.
+use mathlib.Core.Path.{_≡_, refl}
+use mathlib.Core.Bool.{true, false}
+use Prim.Native.Nat.{ℕ, zero, suc, _-_, _≤_}
+use native.Mathlib.Omega.{arith}
+use lib.ListN.{length, List·getD-eq-default}
+use Rattle.rows.proofs.FitLaws.{fits-facts, f32-fits, int4-fits}
+use Rattle.attention.specs.Order.{scorings, scoringOf, noScoring, hasScores}
+use Rattle.attention.specs.Fits.{ScoredRows, IsF32, IsInt4}
+
+-- a row in F32, and in INT4
+pub f32-row : (format d cells scales : ℕ) → ScoredRows format d 1 cells scales → format ≡ 0 → IsF32 d cells
+f32-row format d cells scales h e = f32-fits (rw e at (fits-facts (h .1))) .0
+
+pub int4-row : (format d cells scales : ℕ) → ScoredRows format d 1 cells scales → format ≡ 3 → IsInt4 d cells scales
+int4-row format d cells scales h e = int4-fits (rw e at (fits-facts (h .1)))
+
+-- a number that the table has not
+pub no-scoring : (format : ℕ) → length scorings ≤ format → scoringOf format ≡ noScoring
+no-scoring format h = List·getD-eq-default scorings noScoring h
+
+-- a format that has scores is one of these two
+unscored : (format : ℕ) → (format ≡ 0 → ⊥) → (format ≡ 3 → ⊥) → hasScores format ≡ false
+unfolding hasScores scorings
+unscored zero a b = absurd (a refl)
+unscored (suc zero) a b = refl
+unscored (suc (suc zero)) a b = refl
+unscored (suc (suc (suc zero))) a b = absurd (b refl)
+unscored (suc (suc (suc (suc f)))) a b = refl
+
+pub scored-other : (format : ℕ) → hasScores format ≡ true → (format ≡ 0 → ⊥) → (format ≡ 3 → ⊥) → ⊥
+scored-other format h a b = let e = unscored format a b in let z : _≡_ {A = ℕ} 0 1 = cc in omega (arith, z)
