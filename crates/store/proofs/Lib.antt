@@ -1,5 +1,6 @@
-pub mod CallLaws
+pub mod AcceptLaws
 pub mod Determined
 pub mod Exactly
 pub mod Nothing
+pub mod ReadLaws
 pub mod StoreLaws

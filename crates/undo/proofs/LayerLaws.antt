@@ -10,7 +10,7 @@ use native.Mathlib.Omega.{arith}
 use lib.ListN.{length, replicate, length-append}
 use borrow.Author.Tests.{lt-ltb}
 use Rattle.shapes.specs.declared.Shape.{Shape}
-use Rattle.shapes.specs.Shape.{bytesOf, wordsOf, width, total, cellTotal, scaleTotal, limits}
+use Rattle.shapes.specs.Shape.{bytesOf, wordsOf, width, positions, total, cellTotal, scaleTotal, limits}
 use Rattle.shapes.proofs.ShapeLaws.{limits-facts, cell-bytes-most, scale-words-most}
 use Rattle.rows.specs.Row.{rowCells, rowScales}
 use Rattle.shapes.specs.Buffers.{Buffers, buffers}
@@ -18,7 +18,7 @@ use Rattle.layers.specs.Layer.{written}
 use Rattle.layers.proofs.LayerLaws.{written-keeps}
 use Rattle.layers.proofs.PlaceLaws.{Written}
 use Rattle.layers.proofs.RunLaws.{cell-layer, scale-layer}
-use Rattle.cells.specs.Calls.{positions, appended}
+use Rattle.cells.specs.Calls.{appended}
 use Rattle.cells.specs.Fits.{InRoom, RowsIn}
 use Rattle.cells.proofs.LentLaws.{whole-positions}
 use Rattle.store.specs.Record.{mostOf}

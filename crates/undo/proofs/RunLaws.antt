@@ -10,12 +10,11 @@ use borrow.Author.Tests.{ltb-true, eqb-true, not-false}
 use Rattle.replies.specs.Outcome.{_when_, lowest, outcome}
 use Rattle.replies.proofs.Refusals.{lowest-none, none-lowest}
 use Rattle.shapes.specs.declared.Shape.{Shape}
-use Rattle.cells.specs.Calls.{appendRefusals, removeRefusals}
 use Rattle.cells.proofs.ReplyLaws.{append-fits}
 use Rattle.shapes.specs.Buffers.{Buffers}
 use Rattle.store.specs.declared.Record.{Record}
 use Rattle.store.specs.Record.{seqLen, lengthOf, withSeqLen}
-use Rattle.store.specs.Calls.{Store, store, storeRefusals, recordRefusals, appendOf, truncateOf, advanceOf}
+use Rattle.store.specs.Calls.{Store, store, storeRefusals, recordRefusals, appendRefusals, removeRefusals, appendOf, truncateOf, advanceOf}
 use Rattle.undo.specs.Sequence.{Call, append, truncate, advance, reads, readReply, does, run, counted, accepted}
 use Rattle.undo.specs.Survivors.{Rows, kept, keptFrom}
 use Rattle.undo.proofs.StoreLaws.{Renders}

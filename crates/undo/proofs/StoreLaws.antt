@@ -18,11 +18,10 @@ use Rattle.shapes.specs.declared.Shape.{Shape}
 use Rattle.shapes.specs.Shape.{width, cellTotal, scaleTotal, within, exact}
 use Rattle.shapes.proofs.ShapeLaws.{limits-facts, within-limits, width-in}
 use Rattle.shapes.specs.Buffers.{Buffers}
-use Rattle.cells.specs.Calls.{room}
 use Rattle.cells.specs.Fits.{InRoom}
 use Rattle.store.specs.declared.Record.{Record}
 use Rattle.store.specs.Record.{lengthOf, mostOf, goodLengths}
-use Rattle.store.specs.Calls.{Store, store, empty, storeRefusals, openOf, appendOf}
+use Rattle.store.specs.Calls.{Store, store, empty, bufferRefusals, storeRefusals, openOf, appendOf}
 use Rattle.undo.specs.Survivors.{Rows, noRows}
 use Rattle.undo.proofs.LayerLaws.{HasRows, Sizes, has-none}
 
@@ -46,7 +45,7 @@ opened-left s b h = rw h
 
 pub opened-within : (s : Shape) (b : Buffers) → openOf s b .reply ≡ 0 → within s ≡ true
 unfolding openOf outcome
-opened-within s b h = not-false (within s) (lowest-none 0 (room s b) refl h .0)
+opened-within s b h = not-false (within s) (lowest-none 0 (bufferRefusals s b) refl h .0)
 
 pub empty-renders : (s : Shape) → within s ≡ true → Renders s (empty s) (λ l. noRows)
 empty-renders s h =

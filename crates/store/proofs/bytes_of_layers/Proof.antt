@@ -23,17 +23,8 @@ loop-holds : tie.Need-loop-holds Inv-loop μ-loop
 unfolding turns
 loop-holds c = search needs
 
-cast-loop : tie.Need-cast-loop Inv-loop μ-loop
-cast-loop c = search needs
-
-mul-sum : tie.Need-mul-sum Inv-loop μ-loop
-mul-sum c = search needs
-
 element-copy-out-sum : tie.Need-element-copy-out-sum Inv-loop μ-loop
 element-copy-out-sum c = let b = sound-limits _ (sound-record (c .before .before .before .before .args .t1) (c .before .before .before .before .pre)) .layers-in in omega arith
-
-cast-sum : tie.Need-cast-sum Inv-loop μ-loop
-cast-sum c = search needs
 
 mul-sum-2 : tie.Need-mul-sum-2 Inv-loop μ-loop
 mul-sum-2 c =
@@ -55,9 +46,6 @@ add-l c =
     let w = layer-bytes-in r (c .before .before .loop .l) (sound-record r (c .before .before .before .before .before .pre)) (omega arith) in
     let b = sound-limits r (sound-record r (c .before .before .before .before .before .pre)) .layers-in in
     record { fits = omega arith }
-
-loop-less : tie.Need-loop-less Inv-loop μ-loop
-loop-less c = search needs
 
 loop-again : tie.Need-loop-again Inv-loop μ-loop
 loop-again c =
@@ -81,13 +69,13 @@ bytes-of-layers-spec =
     μ-loop
     position-bytes-requires
     loop-holds
-    cast-loop
-    mul-sum
+    (λ c. search needs)
+    (λ c. search needs)
     element-copy-out-sum
-    cast-sum
+    (λ c. search needs)
     mul-sum-2
     add-sum
     add-l
-    loop-less
+    (λ c. search needs)
     loop-again
     returns)
