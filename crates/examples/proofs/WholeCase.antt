@@ -8,8 +8,8 @@ use Rattle.numbers.specs.Code.{nearestWhole, held, code8}
 use Rattle.replies.specs.Outcome.{lowest, outcome}
 use Rattle.shapes.specs.Shape.{ofFormat, cellBytes, scaleWords, total, limits, within, exact, needOf}
 use Rattle.rows.specs.Row.{int8Cells, int8Scales, rowCells, rowScales}
-use Rattle.layers.specs.Layer.{put, putSide, putLayer, written}
-use Rattle.cells.specs.Calls.{appended, removed}
+use Rattle.buffers.specs.Write.{put, writtenSide, written}
+use Rattle.buffers.specs.Calls.{appended, removed}
 use Rattle.store.specs.Record.{goodLengths, byteCount}
 use Rattle.store.specs.Calls.{openOf, appendOf, truncateOf, memoryBytesOf}
 use Rattle.callfile.specs.Format.{numberAt, words, openAt, appendAt, truncateAt, advanceAt, kindAt, entryAt}
@@ -20,5 +20,5 @@ use Rattle.replay.specs.Transcript.{walkFrom, playOf, transcript}
 use Rattle.examples.specs.WholeCase.{file, lines}
 
 pub whole-case : transcript file ≡ lines
-unfolding file lines tab joined at each turns some little fromLittle magnitude larger largestFrom largest scaleOf nearestWhole held code8 lowest outcome ofFormat cellBytes scaleWords total limits within exact needOf int8Cells int8Scales rowCells rowScales put putSide putLayer written appended removed goodLengths byteCount openOf appendOf truncateOf memoryBytesOf numberAt words openAt appendAt truncateAt advanceAt kindAt entryAt openIn appendIn truncateIn spelled answerText spaced reportText reportOf stepOf walkFrom playOf lt eq div mul ofBits toBits ofInt
+unfolding file lines tab joined at each turns some little fromLittle magnitude larger largestFrom largest scaleOf nearestWhole held code8 lowest outcome ofFormat cellBytes scaleWords total limits within exact needOf int8Cells int8Scales rowCells rowScales put writtenSide written appended removed goodLengths byteCount openOf appendOf truncateOf memoryBytesOf numberAt words openAt appendAt truncateAt advanceAt kindAt entryAt openIn appendIn truncateIn spelled answerText spaced reportText reportOf stepOf walkFrom playOf lt eq div mul ofBits toBits ofInt
 whole-case = refl

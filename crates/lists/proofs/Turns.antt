@@ -1,7 +1,7 @@
 -- One turn more or several, and when two runs of turns end alike.
 -- Each holds by the definition, at the last turn.
-use mathlib.Core.Path.{_≡_, refl, ap, _∙_}
-use Prim.Native.Nat.{ℕ, zero, suc, _+_, _<_}
+use mathlib.Core.Path.{_≡_, refl, ap, subst, _∙_}
+use Prim.Native.Nat.{ℕ, zero, suc, _+_, _-_, _<_}
 use native.Mathlib.Nat.{add-zero, add-suc}
 use native.Mathlib.Numerals.{add-one}
 use native.Mathlib.Omega.{arith}
@@ -44,3 +44,15 @@ module _ {A : Type 0} where
   unfolding turns
   turns-keep P zero f k p = p
   turns-keep P (suc n) f k p = k n (omega arith) _ (turns-keep P n f (λ i b. k i (omega arith)) p)
+
+  -- what turn j establishes, and each later turn keeps, holds at the end; Q holds throughout
+  pub turns-once : (Q P : A → Type 0) (n j : ℕ) (f : ℕ → A → A) {x : A} → j < n → Q x → ((i : ℕ) → i < n → (y : A) → Q y → Q (f i y))
+      → ((y : A) → Q y → P (f j y)) → ((i : ℕ) → i < n → j < i → (y : A) → Q y → P y → P (f i y)) → P (turns n f x)
+  unfolding turns
+  turns-once Q P n j f {x} w q k e later =
+      let d : suc j + (n - suc j) ≡ n = omega arith in
+      let before = turns-keep Q j f (λ i b. k i (omega arith)) q in
+      let end = turns-keep (λ (y : A). Q y × P y) (n - suc j) (λ i. f (suc j + i))
+      (λ i b y z. (k (suc j + i) (omega arith) y (z .0), later (suc j + i) (omega arith) (omega arith) y (z .0) (z .1)))
+      (k j w _ before, e _ before) in
+      subst (λ (m : ℕ). P (turns m f x)) d (rw turns-add (end .1))

@@ -16,6 +16,7 @@ use Rattle.shapes.specs.Shape.{total, limits}
 use Rattle.shapes.proofs.ShapeLaws.{limits-facts, total-small}
 use Rattle.places.specs.Place.{blockAt, rowOf, place}
 use Rattle.places.specs.Span.{hasSpan, spanAt, spanOf}
+use Rattle.places.proofs.PlaceLaws.{Block, block-below, rows-end}
 
 -- positions p to p + n - 1 of a block that a shape has
 pub record SpanIn (s : Shape) (l side h p n : ℕ) : Type 0 where
@@ -52,14 +53,12 @@ module _ {s : Shape} {l side h p n : ℕ} where
   spanned k = rw (facts-span k)
 
 module _ {s : Shape} {l side h p n : ℕ} (k : SpanIn s l side h p n) where
-  block-below : blockAt s l side h < 2 * s .layers * s .heads
-  block-below =
-      let x : 2 * l + side < 2 * s .layers = omega (arith, k .layer-in, k .side-in) in
-      omega (arith, room (s .heads) x, k .head-in)
+  block-in : Block s l side h
+  block-in = record { layer-in = k .layer-in; side-in = k .side-in; head-in = k .head-in }
 
   -- the rows end within the buffer's, and nothing on the way to them is large
   pub rows-below : rowOf s (blockAt s l side h) (p + n) ≤ 2 * s .layers * s .heads * s .capacity
-  rows-below = omega (arith, room (s .capacity) block-below, k .span)
+  rows-below = omega (arith, rows-end block-in p n (k .span))
 
   pub rows-small : {r : ℕ} → r ≤ 1024
       → let first = rowOf s (blockAt s l side h) p in
@@ -68,7 +67,7 @@ module _ {s : Shape} {l side h p n : ℕ} (k : SpanIn s l side h p n) where
       let t = total-small s r (limits-facts s (k .in-limits)) w in
       let end : rowOf s (blockAt s l side h) p + n ≤ 67108864 = omega (arith, rows-below) in
       let first : rowOf s (blockAt s l side h) p ≤ 67108864 = omega arith in
-      (omega (arith, block-below), end, mul-le-mul first w, mul-le-mul end w)
+      (omega (arith, block-below block-in), end, mul-le-mul first w, mul-le-mul end w)
 
   module _ (b : ℕ) where
     -- in a buffer of b elements a row

@@ -1,14 +1,16 @@
 -- What reply 0 says of the arguments of each call: what the functions below it ask for.
 -- Each holds since no refusal of the call applies, and each refusal is a test that then ended the other way.
-use mathlib.Core.Path.{_≡_, refl, ap, _∙_}
-use mathlib.Core.Bool.{true, not}
+use mathlib.Core.Path.{_≡_, refl}
+use mathlib.Core.Bool.{Bool, true, not, _&&_}
 use mathlib.Core.List.{List, [], _∷_, _++_}
 use Prim.Native.Nat.{ℕ, _+_, _≤_, _<_}
 use native.Mathlib.Omega.{arith}
 use lib.ListN.{length, replicate}
 use borrow.Author.Tests.{lt-ltb, le-leb, ltb-true, leb-true, not-false}
-use Rattle.replies.specs.Outcome.{Refusal, _when_, Outcome, lowest}
-use Rattle.replies.proofs.Refusals.{None, rising, lowest-none, outcome-done}
+use Rattle.replies.specs.Outcome.{Refusal, _when_, lowest}
+use Rattle.replies.specs.Tried.{tells}
+use Rattle.replies.proofs.Refusals.{None, rising, lowest-none}
+use Rattle.replies.proofs.Tried.{tried-left}
 use Rattle.shapes.specs.declared.Shape.{Shape}
 use Rattle.shapes.specs.Shape.{headSize, positions, cellTotal, scaleTotal, limits, exact}
 use Rattle.shapes.specs.Buffers.{Buffers, buffers}
@@ -17,11 +19,10 @@ use Rattle.places.specs.declared.Span.{Span}
 use Rattle.places.specs.Span.{spanOf}
 use Rattle.places.proofs.SpanLaws.{SpanIn}
 use Rattle.places.proofs.LentLaws.{Inside, lent-in}
-use Rattle.buffers.specs.Calls.{wholeRows}
-use Rattle.cells.specs.Calls.{appended, removed, overfull, appendRowsOf, removeRowsOf}
+use Rattle.buffers.specs.Calls.{appended, removed, layerFits, wholeRows, appendRowsOf, removeRowsOf}
 use Rattle.store.specs.declared.Record.{Record}
 use Rattle.store.specs.Record.{seqLen, lengthOf}
-use Rattle.store.specs.Calls.{store, bufferRefusals, recordRefusals, lentRefusals, storeRefusals, fitsAfter, appendRefusals, removeRefusals, readRefusals, sequenceRefusal}
+use Rattle.store.specs.Calls.{store, bufferRefusals, recordRefusals, lentRefusals, storeRefusals, fitsAfter, appendRefusals, removeRefusals, sequenceRefusal}
 use Rattle.store.proofs.StoreLaws.{Sound, sound-limits, held-in}
 
 -- opening: buffers that are not refused have the lengths of the zeros
@@ -109,26 +110,24 @@ pub store-alike : {r r′ : Record} {b b′ : Buffers} → r ≡ r′ → b ≡ 
 store-alike e q = rw (e, q)
 
 -- what an append and a truncation leave of the buffers
-module _ (r : Record) (b : Buffers) (l : ℕ) {n held : ℕ} {x : Buffers} where
+module _ (r : Record) (b : Buffers) (l : ℕ) {done : Bool} {held : ℕ} {x : Buffers} where
   pub append-left : (keys values : List ℕ)
       → lowest (storeRefusals r b ++ appendRefusals (r .shape) l (lengthOf r l) (length keys) (length values)) ≡ 0
-      → held ≡ lengthOf r l → record { reply = n; left = x } ≡ appendRowsOf (r .shape) l held keys values b
+      → held ≡ lengthOf r l → tells done x ≡ appendRowsOf (r .shape) l held keys values b
       → x ≡ appended (r .shape) l (lengthOf r l) keys values b
-  unfolding appendRowsOf lowest
+  unfolding appendRowsOf layerFits
   append-left keys values z e q =
       let k = append-layer r l (length keys) (length values) _ _ z in
-      let h : lowest (bufferRefusals (r .shape) b ++ (overfull (r .shape) l (lengthOf r l) ++ appendRefusals (r .shape) l (lengthOf r l) (length keys) (length values))) ≡ 0 =
-      rw (k .sound .shape-in, k .exact-in, lt-ltb _ _ (k .layer-in), le-leb _ _ (held-there k), append-whole r l _ _ _ _ z, le-leb _ _ (append-room r l _ _ _ _ z)) in
-      let q′ : record { reply = n; left = x } ≡ appendRowsOf (r .shape) l (lengthOf r l) keys values b = rw e at q in
-      ap (λ (o : Outcome Buffers). o .left) (q′ ∙ outcome-done _ _ _ h)
+      let t : (layerFits (r .shape) l (lengthOf r l + positions (r .shape) (length keys)) b && wholeRows (r .shape) (length keys) (length values)) ≡ true =
+      rw (k .sound .shape-in, k .exact-in, lt-ltb _ _ (k .layer-in), le-leb _ _ (append-room r l _ _ _ _ z), append-whole r l _ _ _ _ z) in
+      tried-left _ _ t (rw e at q)
 
   pub remove-left : (t : ℕ) → lowest (storeRefusals r b ++ removeRefusals (r .shape) l) ≡ 0
-      → held ≡ lengthOf r l → record { reply = n; left = x } ≡ removeRowsOf (r .shape) l held t b
+      → held ≡ lengthOf r l → tells done x ≡ removeRowsOf (r .shape) l held t b
       → x ≡ removed (r .shape) l (lengthOf r l) t b
-  unfolding removeRowsOf lowest
+  unfolding removeRowsOf layerFits
   remove-left t z e q =
       let k = layer-there r l _ _ [] refl z in
-      let h : lowest (bufferRefusals (r .shape) b ++ (overfull (r .shape) l (lengthOf r l) ++ removeRefusals (r .shape) l)) ≡ 0 =
+      let w : layerFits (r .shape) l (lengthOf r l) b ≡ true =
       rw (k .sound .shape-in, k .exact-in, lt-ltb _ _ (k .layer-in), le-leb _ _ (held-there k)) in
-      let q′ : record { reply = n; left = x } ≡ removeRowsOf (r .shape) l (lengthOf r l) t b = rw e at q in
-      ap (λ (o : Outcome Buffers). o .left) (q′ ∙ outcome-done _ _ _ h)
+      tried-left _ _ w (rw e at q)

@@ -5,18 +5,16 @@ use mathlib.Core.Bool.{true}
 use Prim.Native.Nat.{ℕ, _+_, _*_, _≤_, _<_}
 use native.Mathlib.Nat.{mul-le-mul}
 use native.Mathlib.Omega.{arith}
-use lib.ListN.{length}
 use borrow.Author.Tests.{ltb-false, lt-ltb, not-true, not-false}
 use Rattle.lists.proofs.Some.{some-none}
 use Rattle.replies.specs.Outcome.{lowest}
 use Rattle.replies.proofs.Refusals.{lowest-none}
-use Rattle.shapes.specs.Shape.{bytesOf, wordsOf, cellTotal, scaleTotal, within}
-use Rattle.shapes.proofs.ShapeLaws.{Limits, limits-facts, within-limits, exact-sizes, cell-bytes-most, scale-words-most}
-use Rattle.shapes.specs.Buffers.{Buffers}
+use Rattle.shapes.specs.Shape.{bytesOf, wordsOf, within}
+use Rattle.shapes.proofs.ShapeLaws.{Limits, limits-facts, within-limits, cell-bytes-most, scale-words-most}
 use Rattle.shapes.specs.declared.Shape.{Shape}
 use Rattle.store.specs.declared.Record.{Record}
 use Rattle.store.specs.Record.{lengthOf, mostOf, goodLengths, positionBytes}
-use Rattle.store.specs.Calls.{bufferRefusals, recordRefusals, lentRefusals}
+use Rattle.store.specs.Calls.{recordRefusals, lentRefusals}
 
 -- a record that is not refused, and a store that is not refused
 pub record Sound (r : Record) : Type 0 where

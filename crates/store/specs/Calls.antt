@@ -10,8 +10,7 @@ use Rattle.shapes.specs.declared.Shape.{Shape}
 use Rattle.shapes.specs.Buffers.{Buffers, buffers}
 use Rattle.rows.specs.Row.{rowNumbers}
 use Rattle.places.specs.Place.{cellsAt, scalesAt}
-use Rattle.buffers.specs.Calls.{wholeRows}
-use Rattle.cells.specs.Calls.{appended, removed}
+use Rattle.buffers.specs.Calls.{appended, removed, wholeRows}
 use Rattle.store.specs.declared.Record.{Record}
 use Rattle.store.specs.declared.Changed.{Changed}
 use Rattle.store.specs.declared.Counted.{Counted}

@@ -1,7 +1,7 @@
 // The store: a cache of keys and values in lent buffers, with the record that says what it holds. The Rust's `KvStore`.
-use cells::append_rows;
-use cells::clear_all;
-use cells::remove_rows;
+use buffers::append_rows;
+use buffers::clear_all;
+use buffers::remove_rows;
 use places::span_of;
 use replies::Reply;
 use replies::first_of;

@@ -10,8 +10,8 @@ use lib.ListN.{length, length-set}
 use lib.Seq.{getD-set-same, getD-set-other}
 use borrow.Author.Tests.{lt-ltb, eqb-true, eqb-false}
 use Rattle.shapes.specs.Buffers.{Buffers}
-use Rattle.cells.specs.Calls.{positions, appended, removed}
-use Rattle.cells.specs.Fits.{RowsIn}
+use Rattle.shapes.specs.Shape.{positions}
+use Rattle.buffers.specs.Calls.{appended, removed}
 use Rattle.store.specs.declared.Record.{Record}
 use Rattle.store.specs.Record.{lengthOf, withLength, withSeqLen}
 use Rattle.store.specs.Calls.{store}

@@ -13,11 +13,9 @@ use Rattle.shapes.specs.declared.Shape.{Shape}
 use Rattle.shapes.specs.Shape.{bytesOf, wordsOf, width, total}
 use Rattle.rows.specs.Row.{rowCells, rowScales}
 use Rattle.shapes.specs.Buffers.{Buffers}
-use Rattle.layers.specs.Layer.{zeros}
-use Rattle.layers.proofs.LayerLaws.{written-none}
-use Rattle.layers.proofs.PlaceLaws.{Written}
-use Rattle.cells.specs.Calls.{removed}
-use Rattle.cells.specs.Fits.{InRoom}
+use Rattle.buffers.specs.Write.{zeros}
+use Rattle.buffers.specs.Calls.{removed}
+use Rattle.buffers.proofs.WriteLaws.{Written, written-none}
 use Rattle.undo.specs.Survivors.{Rows, first, firstRows}
 use Rattle.undo.proofs.RowLaws.{holds-cut}
 use Rattle.undo.proofs.NumberLaws.{first-rows}

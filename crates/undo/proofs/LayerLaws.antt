@@ -14,13 +14,11 @@ use Rattle.shapes.specs.Shape.{bytesOf, wordsOf, width, positions, total, cellT
 use Rattle.shapes.proofs.ShapeLaws.{limits-facts, cell-bytes-most, scale-words-most}
 use Rattle.rows.specs.Row.{rowCells, rowScales}
 use Rattle.shapes.specs.Buffers.{Buffers, buffers}
-use Rattle.layers.specs.Layer.{written}
-use Rattle.layers.proofs.LayerLaws.{written-keeps}
-use Rattle.layers.proofs.PlaceLaws.{Written}
-use Rattle.layers.proofs.RunLaws.{cell-layer, scale-layer}
-use Rattle.cells.specs.Calls.{appended}
-use Rattle.cells.specs.Fits.{InRoom, RowsIn}
-use Rattle.cells.proofs.LentLaws.{whole-positions}
+use Rattle.buffers.specs.Write.{written}
+use Rattle.buffers.specs.Calls.{appended}
+use Rattle.buffers.proofs.FitLaws.{whole-rows}
+use Rattle.buffers.proofs.RunLaws.{cell-layer, scale-layer}
+use Rattle.buffers.proofs.WriteLaws.{Written, written-size}
 use Rattle.store.specs.Record.{mostOf}
 use Rattle.undo.specs.Survivors.{Rows, rows, noRows, joinedRows}
 use Rattle.undo.proofs.RowLaws.{Holds, holds-none, holds-still, holds-added}

@@ -11,8 +11,8 @@ use lib.ListN.{length}
 use Rattle.lists.proofs.Part.{part-take, part-left, part-right}
 use Rattle.shapes.specs.declared.Shape.{Shape}
 use Rattle.shapes.specs.Shape.{headSize, width}
-use Rattle.layers.specs.Calls.{headNumbers, sideOf}
-use Rattle.layers.proofs.RunLaws.{numbers-in, side-size}
+use Rattle.buffers.specs.Calls.{headNumbers, sideOf}
+use Rattle.buffers.proofs.RunLaws.{numbers-in, side-size}
 use Rattle.undo.specs.Survivors.{Rows, rows, joinedRows, first, firstRows}
 
 -- either side of what is put together or kept is put together or kept

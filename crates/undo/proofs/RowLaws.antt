@@ -14,9 +14,10 @@ use Rattle.lists.specs.Chunks.{part}
 use Rattle.lists.proofs.Part.{part-replicate}
 use Rattle.shapes.specs.declared.Shape.{Shape}
 use Rattle.shapes.specs.Shape.{total, limits}
-use Rattle.layers.specs.Layer.{written, zeros, place}
-use Rattle.layers.proofs.PlaceLaws.{Written, Place, written-there, written-elsewhere}
-use Rattle.layers.proofs.SpanLaws.{PlaceIn, row-in}
+use Rattle.places.specs.Place.{place}
+use Rattle.places.proofs.PlaceLaws.{Place, row-in}
+use Rattle.buffers.specs.Write.{written, zeros}
+use Rattle.buffers.proofs.WriteLaws.{Written, written-there, written-elsewhere}
 
 -- layer l has n rows, and zeros after them
 pub record Holds (b : ℕ) (s : Shape) (l n : ℕ) (rows : ℕ → ℕ → ℕ → List ℕ) (buf : List ℕ) : Type 0 where

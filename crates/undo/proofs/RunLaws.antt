@@ -10,7 +10,7 @@ use borrow.Author.Tests.{ltb-true, eqb-true, not-false}
 use Rattle.replies.specs.Outcome.{_when_, lowest, outcome}
 use Rattle.replies.proofs.Refusals.{lowest-none, none-lowest}
 use Rattle.shapes.specs.declared.Shape.{Shape}
-use Rattle.cells.proofs.ReplyLaws.{append-fits}
+use Rattle.store.proofs.AcceptLaws.{append-layer, append-whole, append-room}
 use Rattle.shapes.specs.Buffers.{Buffers}
 use Rattle.store.specs.declared.Record.{Record}
 use Rattle.store.specs.Record.{seqLen, lengthOf, withSeqLen}

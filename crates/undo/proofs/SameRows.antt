@@ -13,8 +13,7 @@ use Rattle.shapes.specs.declared.Shape.{Shape}
 use Rattle.shapes.specs.Shape.{bytesOf, wordsOf, width, total}
 use Rattle.shapes.proofs.ShapeLaws.{within-limits, width-in}
 use Rattle.rows.specs.Row.{rowCells, rowScales}
-use Rattle.layers.proofs.PlaceLaws.{places-same}
-use Rattle.cells.proofs.LentLaws.{buffers-alike}
+use Rattle.places.proofs.PlaceLaws.{places-same}
 use Rattle.store.specs.Record.{lengthOf}
 use Rattle.store.specs.Calls.{Store}
 use Rattle.undo.specs.Survivors.{Rows}

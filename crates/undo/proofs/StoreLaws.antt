@@ -18,7 +18,6 @@ use Rattle.shapes.specs.declared.Shape.{Shape}
 use Rattle.shapes.specs.Shape.{width, cellTotal, scaleTotal, within, exact}
 use Rattle.shapes.proofs.ShapeLaws.{limits-facts, within-limits, width-in}
 use Rattle.shapes.specs.Buffers.{Buffers}
-use Rattle.cells.specs.Fits.{InRoom}
 use Rattle.store.specs.declared.Record.{Record}
 use Rattle.store.specs.Record.{lengthOf, mostOf, goodLengths}
 use Rattle.store.specs.Calls.{Store, store, empty, bufferRefusals, storeRefusals, openOf, appendOf}

@@ -1,0 +1,174 @@
+-- The positions passed have their rows, and each turn lends one row of each buffer.
+use mathlib.Core.Path.{refl}
+use mathlib.Core.List.{List}
+use Prim.Native.Nat.{ℕ, _+_, _-_, _*_}
+use native.Mathlib.Omega.{arith}
+use borrow.Author.Needs.{needs}
+use lib.ListN.{length}
+use Rattle.lists.specs.Chunks.{part, each}
+use Rattle.lists.proofs.Loop.{Passed}
+use Rattle.shapes.proofs.ShapeLaws.{width-in}
+use Rattle.rows.specs.Row.{rowCells, rowScales}
+use Rattle.buffers.proofs.HeadLaws.{Rows, RowIn, row-in, row-turn, rows-done}
+use Rattle.buffers.proofs.put_rows_in.Statement.{statement}
+use Rattle.buffers.proofs.put_rows_in.Tie as tie
+
+abbrev Inv-loop : tie.InvT-loop
+Inv-loop format h n numbers cells₀ scales₀ d c w width i₀ cells scales i =
+    let run : ℕ → List ℕ = λ j. part (j * width + h * d) d numbers in
+    Passed c n (λ j x. rowCells format (run j)) cells₀ i cells × Passed w n (λ j x. rowScales format (run j)) scales₀ i scales
+
+abbrev μ-loop : tie.MeasureT-loop
+μ-loop format h n numbers cells₀ scales₀ d c w width i₀ cells scales i = n - i
+
+-- what the loop knows, and where a turn's row lies
+rows-of : (c : tie.At-loop Inv-loop μ-loop)
+    → let a = c .before .before .before .before .before .before .before .before .args in
+    Rows (a .shape) (a .format) (a .h) (a .n) (c .before .before .before .cell-bytes .result) (c .before .before .scale-words .result) (a .numbers .now) (a .cells .now) (a .scales .now)
+rows-of c =
+    let a = c .before .before .before .before .before .before .before .before .pre in
+    record { named = a .0; fits = a .1; cell-row = c .before .before .before .cell-bytes .ensures; scale-row = c .before .before .scale-words .ensures }
+
+row : (c : tie.In-loop Inv-loop μ-loop)
+    → let l = c .before in
+    let a = l .before .before .before .before .before .before .before .before .args in
+    RowIn (a .shape) (a .h) (l .before .before .before .cell-bytes .result) (l .before .before .scale-words .result) (l .loop .i) (length (a .numbers .now))
+    (length (a .cells .now)) (length (a .scales .now))
+row c = row-in (rows-of (c .before)) (omega arith)
+
+cast-d : tie.Need-cast-d Inv-loop μ-loop
+cast-d c = search needs
+
+cell-bytes-requires : tie.Need-cell-bytes-requires Inv-loop μ-loop
+cell-bytes-requires c κs = search needs
+
+scale-words-requires : tie.Need-scale-words-requires Inv-loop μ-loop
+scale-words-requires c κs = search needs
+
+cast-width : tie.Need-cast-width Inv-loop μ-loop
+cast-width c = search needs
+
+mul-width : tie.Need-mul-width Inv-loop μ-loop
+mul-width c = let a = c .before .before .before .before .before .before .before in omega (arith, width-in (a .args .shape) (a .pre .1 .in-limits))
+
+loop-holds : tie.Need-loop-holds Inv-loop μ-loop
+unfolding each
+loop-holds c = ((omega arith, refl, refl), (omega arith, refl, refl))
+
+mul-from : tie.Need-mul-from Inv-loop μ-loop
+mul-from c = omega (arith, row c)
+
+mul-from-2 : tie.Need-mul-from-2 Inv-loop μ-loop
+mul-from-2 c = omega (arith, row c)
+
+add-from : tie.Need-add-from Inv-loop μ-loop
+add-from c = omega (arith, row c)
+
+mul-a : tie.Need-mul-a Inv-loop μ-loop
+mul-a c = omega (arith, row c)
+
+mul-b : tie.Need-mul-b Inv-loop μ-loop
+mul-b c = omega (arith, row c)
+
+add-put-row : tie.Need-add-put-row Inv-loop μ-loop
+add-put-row c = omega (arith, row c)
+
+mul-put-row : tie.Need-mul-put-row Inv-loop μ-loop
+mul-put-row c = omega (arith, row c)
+
+sub-put-row : tie.Need-sub-put-row Inv-loop μ-loop
+sub-put-row c = search needs
+
+part-put-row-start : tie.Need-part-put-row-start Inv-loop μ-loop
+part-put-row-start c = search needs
+
+part-put-row-end : tie.Need-part-put-row-end Inv-loop μ-loop
+part-put-row-end c = omega (arith, row c)
+
+add-put-row-2 : tie.Need-add-put-row-2 Inv-loop μ-loop
+add-put-row-2 c = omega (arith, row (c .before))
+
+sub-put-row-2 : tie.Need-sub-put-row-2 Inv-loop μ-loop
+sub-put-row-2 c = search needs
+
+part-put-row-start-2 : tie.Need-part-put-row-start-2 Inv-loop μ-loop
+part-put-row-start-2 c = search needs
+
+part-put-row-end-2 : tie.Need-part-put-row-end-2 Inv-loop μ-loop
+part-put-row-end-2 c = omega (arith, row (c .before))
+
+add-put-row-3 : tie.Need-add-put-row-3 Inv-loop μ-loop
+add-put-row-3 c = omega (arith, row (c .before .before))
+
+mul-put-row-2 : tie.Need-mul-put-row-2 Inv-loop μ-loop
+mul-put-row-2 c = omega (arith, row (c .before .before))
+
+sub-put-row-3 : tie.Need-sub-put-row-3 Inv-loop μ-loop
+sub-put-row-3 c = search needs
+
+part-put-row-start-3 : tie.Need-part-put-row-start-3 Inv-loop μ-loop
+part-put-row-start-3 c = search needs
+
+part-put-row-end-3 : tie.Need-part-put-row-end-3 Inv-loop μ-loop
+part-put-row-end-3 c = omega (arith, row (c .before .before))
+
+put-row-requires : tie.Need-put-row-requires Inv-loop μ-loop
+put-row-requires c κs = search needs
+
+add-i : tie.Need-add-i Inv-loop μ-loop
+add-i c = search needs
+
+loop-less : tie.Need-loop-less Inv-loop μ-loop
+loop-less c = search needs
+
+loop-again : tie.Need-loop-again Inv-loop μ-loop
+loop-again c =
+    let l = c .before .before .before .before .before .before .before .before .before in row-turn (rows-of l) (omega arith) (l .loop .inv .0) (l .loop .inv .1) (c .before .before .before .before .put-row .ensures)
+
+same-length : tie.Need-same-length Inv-loop μ-loop
+same-length c = search needs
+
+same-length-2 : tie.Need-same-length-2 Inv-loop μ-loop
+same-length-2 c = search needs
+
+returns : tie.Need-returns Inv-loop μ-loop
+returns c = let l = c .before in rows-done (rows-of l) (omega arith) (l .loop .inv .0) (l .loop .inv .1)
+
+pub put-rows-in-spec : {M : Type 1} → statement M
+put-rows-in-spec =
+    tie.close
+    (tie.spec
+    Inv-loop
+    μ-loop
+    cast-d
+    cell-bytes-requires
+    scale-words-requires
+    cast-width
+    mul-width
+    loop-holds
+    mul-from
+    mul-from-2
+    add-from
+    mul-a
+    mul-b
+    add-put-row
+    mul-put-row
+    sub-put-row
+    part-put-row-start
+    part-put-row-end
+    add-put-row-2
+    sub-put-row-2
+    part-put-row-start-2
+    part-put-row-end-2
+    add-put-row-3
+    mul-put-row-2
+    sub-put-row-3
+    part-put-row-start-3
+    part-put-row-end-3
+    put-row-requires
+    add-i
+    loop-less
+    loop-again
+    same-length
+    same-length-2
+    returns)
