@@ -3,20 +3,19 @@
 use mathlib.Core.Path.{_≡_, refl, _∙_}
 use mathlib.Core.Bool.{Bool, true, false, _&&_}
 use mathlib.Core.List.{List}
-use Prim.Native.Nat.{ℕ, _+_, _*_, _%_, _≤_, _<_}
-use native.Mathlib.Nat.{div-add-mod'}
+use Prim.Native.Nat.{ℕ, _+_, _≤_, _<_}
 use native.Mathlib.Omega.{arith}
-use lib.Dec.{eqb, ltb, leb}
+use lib.Dec.{ltb, leb}
 use lib.ListN.{length}
-use borrow.Author.Tests.{eqb-true, ltb-true, leb-true}
+use borrow.Author.Tests.{ltb-true, leb-true}
 use Rattle.lists.specs.Chunks.{turns}
 use Rattle.replies.proofs.Flags.{both}
 use Rattle.shapes.specs.declared.Shape.{Shape}
 use Rattle.shapes.specs.Buffers.{Buffers, buffers}
-use Rattle.shapes.specs.Shape.{bytesOf, wordsOf, width, positions, limits, within, exact}
+use Rattle.shapes.specs.Shape.{bytesOf, wordsOf, limits, within, exact}
 use Rattle.shapes.proofs.ShapeLaws.{within-limits, exact-sizes}
 use Rattle.buffers.specs.Write.{writtenSide, written}
-use Rattle.buffers.specs.Calls.{layerFits, wholeRows}
+use Rattle.buffers.specs.Calls.{layerFits}
 use Rattle.buffers.specs.Fits.{InLayer}
 
 regrouped : (w e r : Bool) → ((w && e) && r) ≡ (w && (e && r))
@@ -57,14 +56,6 @@ module _ (s : Shape) (l most : ℕ) (b : Buffers) where
 
 pub room-limits : (s : Shape) (cells scales : ℕ) → (within s && exact s cells scales) ≡ true → limits s ≡ true
 room-limits s cells scales t = within-limits s (both (within s) (exact s cells scales) t .0)
-
--- keys and values of whole positions
-pub whole-rows : (s : Shape) (keys values : ℕ) → wholeRows s keys values ≡ true → (keys ≡ positions s keys * width s) × (values ≡ positions s keys * width s)
-whole-rows s keys values t =
-    let x = both (eqb (keys % width s) 0) (eqb values keys) t in
-    let e = eqb-true (keys % width s) 0 (x .0) in
-    let h : keys ≡ positions s keys * width s = omega (arith, div-add-mod' keys (width s)) in
-    (h, eqb-true values keys (x .1) ∙ h)
 
 -- the keys' side, then the values', in both buffers
 module _ (s : Shape) (l p n : ℕ) (rows rows′ : ℕ → ℕ → ℕ → List ℕ) (b : Buffers) where

@@ -3,18 +3,20 @@
 use mathlib.Core.Path.{_≡_, _∙_}
 use mathlib.Core.Bool.{Bool, true, false, cond}
 use mathlib.Core.List.{List}
-use Prim.Native.Nat.{ℕ, _+_, _-_, _*_, _≤_, _<_}
-use native.Mathlib.Nat.{add-mul, add-assoc}
+use Prim.Native.Nat.{ℕ, _+_, _-_, _*_, _/_, _%_, _≤_, _<_}
+use native.Mathlib.Nat.{add-mul, add-assoc, div-add-mod'}
 use native.Mathlib.Omega.{arith}
 use lib.Dec.{eqb}
 use lib.ListN.{length}
+use borrow.Author.Tests.{eqb-true}
 use Rattle.lists.specs.Chunks.{part}
 use Rattle.lists.proofs.Part.{room, room-in, part-part, part-length}
+use Rattle.replies.proofs.Flags.{both}
 use Rattle.shapes.specs.declared.Shape.{Shape}
-use Rattle.shapes.specs.Shape.{headSize, bytesOf, wordsOf, width, limits}
+use Rattle.shapes.specs.Shape.{headSize, bytesOf, wordsOf, width, positions, limits}
 use Rattle.shapes.proofs.ShapeLaws.{limits-facts}
 use Rattle.rows.proofs.RowLaws.{row-cells-length, row-scales-length}
-use Rattle.buffers.specs.Calls.{headNumbers, sideOf, cellRow, scaleRow}
+use Rattle.buffers.specs.Calls.{headNumbers, sideOf, cellRow, scaleRow, wholeRows}
 use Rattle.buffers.proofs.WriteLaws.{SideRows, LayerRows}
 
 -- head h of position i lies within n positions
@@ -45,6 +47,14 @@ either false keys values k v = v
 
 pub side-size : (keys values : List ℕ) {n : ℕ} → length keys ≡ n → length values ≡ n → (side : ℕ) → length (sideOf keys values side) ≡ n
 side-size keys values k v side = either (eqb side 0) keys values k v
+
+-- what the test of whole positions says of both
+pub whole-rows : (s : Shape) (keys values : ℕ) → wholeRows s keys values ≡ true
+    → (keys ≡ positions s keys * width s) × (values ≡ positions s keys * width s)
+whole-rows s keys values h =
+    let x = both (eqb (keys % width s) 0) (eqb values keys) h in
+    let k : keys ≡ keys / width s * width s = omega (arith, div-add-mod' keys (width s), eqb-true (keys % width s) 0 (x .0)) in
+    (k, eqb-true values keys (x .1) ∙ k)
 
 module _ (s : Shape) (n : ℕ) (inside : limits s ≡ true) where
   module _ (numbers : List ℕ) (e : length numbers ≡ n * width s) where

@@ -1,4 +1,5 @@
--- What the functions inside ask of their arguments: what the calls test for. It renders the paper's Buffers, under Shape and room.
+-- What the functions inside ask of their arguments, which the calls test for: the paper's Buffers, under Shape and room.
+-- Positions of a layer in whole buffers, and the rows of one head.
 use mathlib.Core.Path.{_≡_}
 use mathlib.Core.Bool.{true}
 use Prim.Native.Nat.{ℕ, _+_, _*_, _≤_, _<_}

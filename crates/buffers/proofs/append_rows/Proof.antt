@@ -13,7 +13,8 @@ use Rattle.shapes.specs.Buffers.{buffers}
 use Rattle.shapes.specs.Shape.{width, positions, limits}
 use Rattle.shapes.proofs.ShapeLaws.{width-in}
 use Rattle.buffers.specs.Calls.{sideOf, cellRow, scaleRow, appended, layerFits, wholeRows, appendRowsOf}
-use Rattle.buffers.proofs.FitLaws.{room-limits, layer-fits, layer-left, in-layer, whole-rows, both-sides}
+use Rattle.buffers.proofs.FitLaws.{room-limits, layer-fits, layer-left, in-layer, both-sides}
+use Rattle.buffers.proofs.RunLaws.{whole-rows}
 use Rattle.buffers.proofs.append_rows.Statement.{statement}
 use Rattle.buffers.proofs.append_rows.Tie as tie
 
@@ -46,20 +47,11 @@ fits c =
     let y = whole-rows (a .shape) (length (a .keys .now)) (length (a .values .now)) (x .1) in
     (x .0, y .0, y .1)
 
-has-room-requires : tie.Need-has-room-requires
-has-room-requires c κs = search needs
-
 returns : tie.Need-returns
 unfolding appendRowsOf
 returns c =
     let a = c .before .before .before .before .before .before .args in
     rw (← layer-fits (a .shape) (a .layer) (a .held + positions (a .shape) (length (a .keys .now))) (buffers (a .cells .now) (a .scales .now)), failed (c .before .has-room .ensures) (c .if1 .taken))
-
-cast-width : tie.Need-cast-width
-cast-width c = search needs
-
-cast-width-2 : tie.Need-cast-width-2
-cast-width-2 c = search needs
 
 mul-width : tie.Need-mul-width
 mul-width c = omega (arith, width-in _ (limited (c .before .before)))
@@ -69,9 +61,6 @@ div-n c = omega (arith, width-in _ (limited (c .before .before)))
 
 add-fits : tie.Need-add-fits
 add-fits c = let a = c .before .before .before .before .before .before .before .before .before .args in omega (arith, div-le-self (length (a .keys .now)) (width (a .shape)))
-
-cast-fits : tie.Need-cast-fits
-cast-fits c = search needs
 
 rem-whole : tie.Need-rem-whole
 rem-whole c = omega (arith, width-in _ (limited (c .before .before .before .before)))
@@ -90,12 +79,6 @@ put-positions-requires-2 c κs =
     let x = fits (c .before .before .before .before .before .before .before .before .before) in
     (in-layer _ _ _ _ (x .0) (omega arith) (le-refl _) (search needs) (search needs), search x)
 
-same-length : tie.Need-same-length
-same-length c = search needs
-
-same-length-2 : tie.Need-same-length-2
-same-length-2 c = search needs
-
 returns-3 : tie.Need-returns-3
 unfolding appendRowsOf appended
 returns-3 c =
@@ -110,18 +93,18 @@ pub append-rows-spec : {M : Type 1} → statement M
 append-rows-spec =
     tie.close
     (tie.spec
-    has-room-requires
+    (λ c κs. search needs)
     returns
-    cast-width
-    cast-width-2
+    (λ c. search needs)
+    (λ c. search needs)
     mul-width
     div-n
     add-fits
-    cast-fits
+    (λ c. search needs)
     rem-whole
     returns-2
     put-positions-requires
     put-positions-requires-2
-    same-length
-    same-length-2
+    (λ c. search needs)
+    (λ c. search needs)
     returns-3)

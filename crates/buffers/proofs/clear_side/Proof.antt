@@ -33,32 +33,14 @@ block c =
     block-in (start l .pre) (c .if1 .taken) (l .before .before .before .before .before .span-of .ensures) (l .before .before .before .cell-bytes .ensures) (l .before .scale-words .ensures)
     (l .loop .inv .0 .kept) (l .loop .inv .1 .kept)
 
-span-of-requires : tie.Need-span-of-requires Inv-loop μ-loop
-span-of-requires c κs = search needs
-
-cast-c : tie.Need-cast-c Inv-loop μ-loop
-cast-c c = search needs
-
-cell-bytes-requires : tie.Need-cell-bytes-requires Inv-loop μ-loop
-cell-bytes-requires c κs = search needs
-
 mul-c : tie.Need-mul-c Inv-loop μ-loop
 mul-c c = omega (arith, cells-small (c .before .before .before .before .before .pre) (c .cell-bytes .ensures))
-
-cast-w : tie.Need-cast-w Inv-loop μ-loop
-cast-w c = search needs
-
-scale-words-requires : tie.Need-scale-words-requires Inv-loop μ-loop
-scale-words-requires c κs = search needs
 
 mul-w : tie.Need-mul-w Inv-loop μ-loop
 mul-w c = omega (arith, words-small (c .before .before .before .before .before .before .before .pre) (c .scale-words .ensures))
 
 loop-holds : tie.Need-loop-holds Inv-loop μ-loop
 loop-holds c = (no-heads, no-heads)
-
-cast-if1 : tie.Need-cast-if1 Inv-loop μ-loop
-cast-if1 c = search needs
 
 mul-a : tie.Need-mul-a Inv-loop μ-loop
 mul-a c = omega (arith, block c)
@@ -81,9 +63,6 @@ part-zero-cells-start c = omega (arith, block (c .before .before))
 part-zero-cells-end : tie.Need-part-zero-cells-end Inv-loop μ-loop
 part-zero-cells-end c = omega (arith, block (c .before .before))
 
-zero-cells-requires : tie.Need-zero-cells-requires Inv-loop μ-loop
-zero-cells-requires c κs = search needs
-
 add-zero-words : tie.Need-add-zero-words Inv-loop μ-loop
 add-zero-words c = omega (arith, block (c .before .before .before .before .before .before .before))
 
@@ -101,12 +80,6 @@ part-zero-words-start c = omega (arith, block (c .before .before .before .before
 
 part-zero-words-end : tie.Need-part-zero-words-end Inv-loop μ-loop
 part-zero-words-end c = omega (arith, block (c .before .before .before .before .before .before .before .before))
-
-zero-words-requires : tie.Need-zero-words-requires Inv-loop μ-loop
-zero-words-requires c κs = search needs
-
-add-h : tie.Need-add-h Inv-loop μ-loop
-add-h c = search needs
 
 loop-less : tie.Need-loop-less Inv-loop μ-loop
 loop-less c = falls _ _ (c .before .before .before .before .before .before .before .before .before .before .before .before .if1 .taken)
@@ -135,15 +108,15 @@ clear-side-spec =
     (tie.spec
     Inv-loop
     μ-loop
-    span-of-requires
-    cast-c
-    cell-bytes-requires
+    (λ c κs. search needs)
+    (λ c. search needs)
+    (λ c κs. search needs)
     mul-c
-    cast-w
-    scale-words-requires
+    (λ c. search needs)
+    (λ c κs. search needs)
     mul-w
     loop-holds
-    cast-if1
+    (λ c. search needs)
     mul-a
     mul-b
     add-zero-cells
@@ -151,15 +124,15 @@ clear-side-spec =
     sub-zero-cells
     part-zero-cells-start
     part-zero-cells-end
-    zero-cells-requires
+    (λ c κs. search needs)
     add-zero-words
     add-zero-words-2
     mul-zero-words
     sub-zero-words
     part-zero-words-start
     part-zero-words-end
-    zero-words-requires
-    add-h
+    (λ c κs. search needs)
+    (λ c. search needs)
     loop-less
     loop-again
     same-length

@@ -13,12 +13,6 @@ no-refusal true true = refl
 no-refusal true false = refl
 no-refusal false e = refl
 
-room-reply-requires : tie.Need-room-reply-requires
-room-reply-requires c κs = search needs
-
-number-requires : tie.Need-number-requires
-number-requires c κs = search needs
-
 returns : tie.Need-returns
 unfolding lowest
 returns c =
@@ -26,4 +20,4 @@ returns c =
     rw (c .number .ensures, c .before .room-reply .ensures) (no-refusal (within (a .shape)) (exact (a .shape) (a .cells) (a .scales)))
 
 pub has-room-spec : {M : Type 1} → statement M
-has-room-spec = tie.close (tie.spec room-reply-requires number-requires returns)
+has-room-spec = tie.close (tie.spec (λ c κs. search needs) (λ c κs. search needs) returns)

@@ -57,12 +57,6 @@ next c =
     let w : j + k ≤ a .args .n = omega arith in
     (omega arith, w, rw (a .pre .1, ← add-mul j k (width (a .args .shape))) (mul-le-mul-right (width (a .args .shape)) w))
 
-cast-width : tie.Need-cast-width Inv-loop μ-loop
-cast-width c = search needs
-
-cast-width-2 : tie.Need-cast-width-2 Inv-loop μ-loop
-cast-width-2 c = search needs
-
 mul-width : tie.Need-mul-width Inv-loop μ-loop
 mul-width c = let a = c .before .before .before .before .before in omega (arith, width-in (a .args .shape) (a .pre .0 .in-limits))
 
@@ -70,12 +64,6 @@ loop-holds : tie.Need-loop-holds Inv-loop μ-loop
 loop-holds c =
     let a = c .before .before .before .before .before .args in
     (no-positions _ _ _ _ _ _ (rowCells (a .shape .format)) (a .numbers .now) _, no-positions _ _ _ _ _ _ (rowScales (a .shape .format)) (a .numbers .now) _)
-
-sub-next-positions : tie.Need-sub-next-positions Inv-loop μ-loop
-sub-next-positions c = search needs
-
-next-positions-requires : tie.Need-next-positions-requires Inv-loop μ-loop
-next-positions-requires c κs = search needs
 
 mul-a : tie.Need-mul-a Inv-loop μ-loop
 mul-a c = omega (arith, next c)
@@ -148,12 +136,12 @@ put-positions-spec =
     (tie.spec
     Inv-loop
     μ-loop
-    cast-width
-    cast-width-2
+    (λ c. search needs)
+    (λ c. search needs)
     mul-width
     loop-holds
-    sub-next-positions
-    next-positions-requires
+    (λ c. search needs)
+    (λ c κs. search needs)
     mul-a
     add-put-side
     mul-put-side

@@ -36,18 +36,6 @@ row : (c : tie.In-loop Inv-loop μ-loop)
     (length (a .cells .now)) (length (a .scales .now))
 row c = row-in (rows-of (c .before)) (omega arith)
 
-cast-d : tie.Need-cast-d Inv-loop μ-loop
-cast-d c = search needs
-
-cell-bytes-requires : tie.Need-cell-bytes-requires Inv-loop μ-loop
-cell-bytes-requires c κs = search needs
-
-scale-words-requires : tie.Need-scale-words-requires Inv-loop μ-loop
-scale-words-requires c κs = search needs
-
-cast-width : tie.Need-cast-width Inv-loop μ-loop
-cast-width c = search needs
-
 mul-width : tie.Need-mul-width Inv-loop μ-loop
 mul-width c = let a = c .before .before .before .before .before .before .before in omega (arith, width-in (a .args .shape) (a .pre .1 .in-limits))
 
@@ -76,23 +64,11 @@ add-put-row c = omega (arith, row c)
 mul-put-row : tie.Need-mul-put-row Inv-loop μ-loop
 mul-put-row c = omega (arith, row c)
 
-sub-put-row : tie.Need-sub-put-row Inv-loop μ-loop
-sub-put-row c = search needs
-
-part-put-row-start : tie.Need-part-put-row-start Inv-loop μ-loop
-part-put-row-start c = search needs
-
 part-put-row-end : tie.Need-part-put-row-end Inv-loop μ-loop
 part-put-row-end c = omega (arith, row c)
 
 add-put-row-2 : tie.Need-add-put-row-2 Inv-loop μ-loop
 add-put-row-2 c = omega (arith, row (c .before))
-
-sub-put-row-2 : tie.Need-sub-put-row-2 Inv-loop μ-loop
-sub-put-row-2 c = search needs
-
-part-put-row-start-2 : tie.Need-part-put-row-start-2 Inv-loop μ-loop
-part-put-row-start-2 c = search needs
 
 part-put-row-end-2 : tie.Need-part-put-row-end-2 Inv-loop μ-loop
 part-put-row-end-2 c = omega (arith, row (c .before))
@@ -103,33 +79,12 @@ add-put-row-3 c = omega (arith, row (c .before .before))
 mul-put-row-2 : tie.Need-mul-put-row-2 Inv-loop μ-loop
 mul-put-row-2 c = omega (arith, row (c .before .before))
 
-sub-put-row-3 : tie.Need-sub-put-row-3 Inv-loop μ-loop
-sub-put-row-3 c = search needs
-
-part-put-row-start-3 : tie.Need-part-put-row-start-3 Inv-loop μ-loop
-part-put-row-start-3 c = search needs
-
 part-put-row-end-3 : tie.Need-part-put-row-end-3 Inv-loop μ-loop
 part-put-row-end-3 c = omega (arith, row (c .before .before))
-
-put-row-requires : tie.Need-put-row-requires Inv-loop μ-loop
-put-row-requires c κs = search needs
-
-add-i : tie.Need-add-i Inv-loop μ-loop
-add-i c = search needs
-
-loop-less : tie.Need-loop-less Inv-loop μ-loop
-loop-less c = search needs
 
 loop-again : tie.Need-loop-again Inv-loop μ-loop
 loop-again c =
     let l = c .before .before .before .before .before .before .before .before .before in row-turn (rows-of l) (omega arith) (l .loop .inv .0) (l .loop .inv .1) (c .before .before .before .before .put-row .ensures)
-
-same-length : tie.Need-same-length Inv-loop μ-loop
-same-length c = search needs
-
-same-length-2 : tie.Need-same-length-2 Inv-loop μ-loop
-same-length-2 c = search needs
 
 returns : tie.Need-returns Inv-loop μ-loop
 returns c = let l = c .before in rows-done (rows-of l) (omega arith) (l .loop .inv .0) (l .loop .inv .1)
@@ -140,10 +95,10 @@ put-rows-in-spec =
     (tie.spec
     Inv-loop
     μ-loop
-    cast-d
-    cell-bytes-requires
-    scale-words-requires
-    cast-width
+    (λ c. search needs)
+    (λ c κs. search needs)
+    (λ c κs. search needs)
+    (λ c. search needs)
     mul-width
     loop-holds
     mul-from
@@ -153,22 +108,22 @@ put-rows-in-spec =
     mul-b
     add-put-row
     mul-put-row
-    sub-put-row
-    part-put-row-start
+    (λ c. search needs)
+    (λ c. search needs)
     part-put-row-end
     add-put-row-2
-    sub-put-row-2
-    part-put-row-start-2
+    (λ c. search needs)
+    (λ c. search needs)
     part-put-row-end-2
     add-put-row-3
     mul-put-row-2
-    sub-put-row-3
-    part-put-row-start-3
+    (λ c. search needs)
+    (λ c. search needs)
     part-put-row-end-3
-    put-row-requires
-    add-i
-    loop-less
+    (λ c κs. search needs)
+    (λ c. search needs)
+    (λ c. search needs)
     loop-again
-    same-length
-    same-length-2
+    (λ c. search needs)
+    (λ c. search needs)
     returns)

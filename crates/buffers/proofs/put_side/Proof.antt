@@ -36,32 +36,14 @@ block c =
     block-in (start l .pre .0) (c .if1 .taken) (l .before .before .before .before .before .span-of .ensures) (l .before .before .before .cell-bytes .ensures) (l .before .scale-words .ensures)
     (l .loop .inv .0 .kept) (l .loop .inv .1 .kept)
 
-span-of-requires : tie.Need-span-of-requires Inv-loop μ-loop
-span-of-requires c κs = search needs
-
-cast-c : tie.Need-cast-c Inv-loop μ-loop
-cast-c c = search needs
-
-cell-bytes-requires : tie.Need-cell-bytes-requires Inv-loop μ-loop
-cell-bytes-requires c κs = search needs
-
 mul-c : tie.Need-mul-c Inv-loop μ-loop
 mul-c c = omega (arith, cells-small (c .before .before .before .before .before .before .pre .0) (c .cell-bytes .ensures))
-
-cast-w : tie.Need-cast-w Inv-loop μ-loop
-cast-w c = search needs
-
-scale-words-requires : tie.Need-scale-words-requires Inv-loop μ-loop
-scale-words-requires c κs = search needs
 
 mul-w : tie.Need-mul-w Inv-loop μ-loop
 mul-w c = omega (arith, words-small (c .before .before .before .before .before .before .before .before .pre .0) (c .scale-words .ensures))
 
 loop-holds : tie.Need-loop-holds Inv-loop μ-loop
 loop-holds c = (no-heads, no-heads)
-
-cast-if1 : tie.Need-cast-if1 Inv-loop μ-loop
-cast-if1 c = search needs
 
 mul-a : tie.Need-mul-a Inv-loop μ-loop
 mul-a c = omega (arith, block c)
@@ -115,9 +97,6 @@ put-rows-requires c κs =
       scale-size = c .put-rows-arg2 .given .2 ∙ lent-count _ (block k .words-at .count) refl;
     }
 
-add-h : tie.Need-add-h Inv-loop μ-loop
-add-h c = search needs
-
 loop-less : tie.Need-loop-less Inv-loop μ-loop
 loop-less c = falls _ _ (c .before .before .before .before .before .before .before .before .before .before .before .if1 .taken)
 
@@ -146,15 +125,15 @@ put-side-spec =
     (tie.spec
     Inv-loop
     μ-loop
-    span-of-requires
-    cast-c
-    cell-bytes-requires
+    (λ c κs. search needs)
+    (λ c. search needs)
+    (λ c κs. search needs)
     mul-c
-    cast-w
-    scale-words-requires
+    (λ c. search needs)
+    (λ c κs. search needs)
     mul-w
     loop-holds
-    cast-if1
+    (λ c. search needs)
     mul-a
     mul-b
     add-put-rows
@@ -169,7 +148,7 @@ put-side-spec =
     part-put-rows-start-2
     part-put-rows-end-2
     put-rows-requires
-    add-h
+    (λ c. search needs)
     loop-less
     loop-again
     same-length

@@ -22,30 +22,15 @@ tested : (c : tie.After-has-room)
     ≡ layerFits (a .shape) (a .layer) (a .held) (buffers (a .cells .now) (a .scales .now))
 tested c = let a = c .before .before .before .before .before .args in rw (c .has-room .ensures) (layer-fits (a .shape) (a .layer) (a .held) (buffers (a .cells .now) (a .scales .now)))
 
-has-room-requires : tie.Need-has-room-requires
-has-room-requires c κs = search needs
-
 returns : tie.Need-returns
 unfolding removeRowsOf
 returns c = rw (failed (tested (c .before)) (c .if1 .taken))
-
-sub-n : tie.Need-sub-n
-sub-n c = search needs
-
-cast-n : tie.Need-cast-n
-cast-n c = search needs
 
 clear-side-requires : tie.Need-clear-side-requires
 clear-side-requires c κs = in-layer _ _ _ _ (passed (tested (c .before .before .before .before)) (c .before .before .before .if1 .left)) (omega arith) (omega arith) (search needs) (search needs)
 
 clear-side-requires-2 : tie.Need-clear-side-requires-2
 clear-side-requires-2 c κs = in-layer _ _ _ _ (passed (tested (c .before .before .before .before .before .before .before .before .before .before .before)) (c .before .before .before .before .before .before .before .before .before .before .if1 .left)) (omega arith) (omega arith) (search needs) (search needs)
-
-same-length : tie.Need-same-length
-same-length c = search needs
-
-same-length-2 : tie.Need-same-length-2
-same-length-2 c = search needs
 
 returns-2 : tie.Need-returns-2
 unfolding removeRowsOf removed
@@ -67,13 +52,13 @@ pub remove-rows-spec : {M : Type 1} → statement M
 remove-rows-spec =
     tie.close
     (tie.spec
-    has-room-requires
+    (λ c κs. search needs)
     returns
-    sub-n
-    cast-n
+    (λ c. search needs)
+    (λ c. search needs)
     clear-side-requires
     clear-side-requires-2
-    same-length
-    same-length-2
+    (λ c. search needs)
+    (λ c. search needs)
     returns-2
     returns-3)

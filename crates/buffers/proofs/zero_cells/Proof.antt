@@ -15,12 +15,6 @@ Inv-loop cells₀ i₀ cells i = (i ≤ length cells₀) × (cells ≡ replicate
 abbrev μ-loop : tie.MeasureT-loop
 μ-loop cells₀ i₀ cells i = length cells₀ - i
 
-loop-holds : tie.Need-loop-holds Inv-loop μ-loop
-loop-holds c = search needs
-
-slice-write-cells : tie.Need-slice-write-cells Inv-loop μ-loop
-slice-write-cells c = search needs
-
 add-i : tie.Need-add-i Inv-loop μ-loop
 add-i c = omega arith
 
@@ -29,9 +23,6 @@ loop-less c = omega arith
 
 loop-again : tie.Need-loop-again Inv-loop μ-loop
 loop-again c = (omega arith, zero-turn _ _ (omega arith) (c .before .loop .inv .1), simp length-set (omega arith))
-
-same-length : tie.Need-same-length Inv-loop μ-loop
-same-length c = search needs
 
 returns : tie.Need-returns Inv-loop μ-loop
 returns c = zero-done (c .before .loop .i) _ (c .before .loop .inv .1) (omega arith) (omega arith)
@@ -42,10 +33,10 @@ zero-cells-spec =
     (tie.spec
     Inv-loop
     μ-loop
-    loop-holds
-    slice-write-cells
+    (λ c. search needs)
+    (λ c. search needs)
     add-i
     loop-less
     loop-again
-    same-length
+    (λ c. search needs)
     returns)

@@ -15,15 +15,6 @@ Inv-loop words₀ i₀ words i = (i ≤ length words₀) × (words ≡ replicate
 abbrev μ-loop : tie.MeasureT-loop
 μ-loop words₀ i₀ words i = length words₀ - i
 
-loop-holds : tie.Need-loop-holds Inv-loop μ-loop
-loop-holds c = search needs
-
-mul-words : tie.Need-mul-words Inv-loop μ-loop
-mul-words c = search needs
-
-slice-write-words : tie.Need-slice-write-words Inv-loop μ-loop
-slice-write-words c = search needs
-
 add-i : tie.Need-add-i Inv-loop μ-loop
 add-i c = omega arith
 
@@ -32,9 +23,6 @@ loop-less c = omega arith
 
 loop-again : tie.Need-loop-again Inv-loop μ-loop
 loop-again c = (omega arith, zero-turn _ _ (omega arith) (c .before .loop .inv .1), simp length-set (omega arith))
-
-same-length : tie.Need-same-length Inv-loop μ-loop
-same-length c = search needs
 
 returns : tie.Need-returns Inv-loop μ-loop
 returns c = zero-done (c .before .loop .i) _ (c .before .loop .inv .1) (omega arith) (omega arith)
@@ -45,11 +33,11 @@ zero-words-spec =
     (tie.spec
     Inv-loop
     μ-loop
-    loop-holds
-    mul-words
-    slice-write-words
+    (λ c. search needs)
+    (λ c. search needs)
+    (λ c. search needs)
     add-i
     loop-less
     loop-again
-    same-length
+    (λ c. search needs)
     returns)
