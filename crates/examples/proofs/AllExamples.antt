@@ -19,8 +19,8 @@ use Rattle.shapes.specs.declared.Shape.{Shape}
 use Rattle.shapes.specs.Buffers.{Buffers}
 use Rattle.lists.specs.Bytes.{little}
 use Rattle.rows.specs.Row.{codings, f32Cells, bf16Cells, int8Cells, int8Scales, int4Cells, int4Scales, rowCells, rowScales}
-use Rattle.layers.specs.Layer.{put, putSide, putLayer, written}
-use Rattle.cells.specs.Calls.{appended}
+use Rattle.buffers.specs.Write.{put, writtenSide, written}
+use Rattle.buffers.specs.Calls.{appended}
 use Rattle.store.specs.Record.{goodLengths}
 use Rattle.store.specs.Calls.{openOf, appendOf}
 use Rattle.attention.specs.Order.{summed, groupDot, int4Dot, scorings, hasScores, rowDot, rowTerm, scoresOf, sumsOf}
@@ -54,5 +54,5 @@ one-by-one (Opened n s reply ∷ es) h = ((λ b c d. open-reply s b (cellTotal s
 one-by-one (Outside n s ∷ es) h = ((λ b. outside-reply s b (cc)), one-by-one es (cc))
 
 pub examples-hold : AllHold examples
-unfolding examples answer got wanted tab joined at each turns some bf16 magnitude larger largestFrom largest scaleOf nearestWhole clamped code8 code4 read4 less8 packed half unpacked lt eq div mul ofBits toBits ofInt lowest outcome layouts known wholeGroups codings cellBytes scaleWords total limits within exact little f32Cells bf16Cells int8Cells int8Scales int4Cells int4Scales rowCells rowScales put putSide putLayer written appended goodLengths openOf appendOf add summed groupDot int4Dot scorings hasScores rowDot rowTerm scoresOf sumsOf scoresAt sumsAt headScoresOf headSumsOf
+unfolding examples answer got wanted tab joined at each turns some bf16 magnitude larger largestFrom largest scaleOf nearestWhole clamped code8 code4 read4 less8 packed half unpacked lt eq div mul ofBits toBits ofInt lowest outcome layouts known wholeGroups codings cellBytes scaleWords total limits within exact little f32Cells bf16Cells int8Cells int8Scales int4Cells int4Scales rowCells rowScales put writtenSide written appended goodLengths openOf appendOf add summed groupDot int4Dot scorings hasScores rowDot rowTerm scoresOf sumsOf scoresAt sumsAt headScoresOf headSumsOf
 examples-hold = one-by-one examples refl

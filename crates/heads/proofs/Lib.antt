@@ -1,4 +1,4 @@
 mod BlockLaws
 pub mod Determined
 pub mod Exactly
-pub mod HeadLaws
+mod HeadLaws

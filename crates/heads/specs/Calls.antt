@@ -9,10 +9,10 @@ use Rattle.replies.specs.Outcome.{Refusal, _when_, Outcome, outcome}
 use Rattle.shapes.specs.declared.Shape.{Shape}
 use Rattle.shapes.specs.Shape.{headSize}
 use Rattle.shapes.specs.Buffers.{Buffers}
-use Rattle.cells.specs.Calls.{cellsAt, scalesAt, hasLayer}
+use Rattle.places.specs.Place.{cellsAt, scalesAt}
 use Rattle.store.specs.declared.Record.{Record}
 use Rattle.store.specs.Record.{lengthOf}
-use Rattle.store.specs.Calls.{storeRefusals}
+use Rattle.store.specs.Calls.{hasLayer, storeRefusals}
 use Rattle.attention.specs.Order.{hasScores, rowDot, rowTerm, scoresOf, sumsOf}
 
 -- the first m positions of head h in layer l, scored on the keys' side under a query and a given scale x

@@ -1,2 +1,3 @@
+pub mod LentLaws
 pub mod PlaceLaws
 pub mod SpanLaws

@@ -83,6 +83,9 @@ module _ {s : Shape} {l side h p n : ℕ} (k : SpanIn s l side h p n) where
       lent-size : to - from ≡ n * b
       lent-size = omega (arith, span-size)
 
+      pub span-part : part from (to - from) buf ≡ part (place b s l side h p) (n * b) buf
+      span-part = rw (lent-size, q)
+
       pub span-length : length buf ≡ total b s → length (part from (to - from) buf) ≡ n * b
       span-length f = part-length from (to - from) buf (omega (arith, span-in, span-size)) ∙ lent-size
 

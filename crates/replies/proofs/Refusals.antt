@@ -93,18 +93,6 @@ pub outcome-refused : {A : Type 0} (a : List Refusal) (new old : A) → (lowest 
 unfolding outcome
 outcome-refused a new old h = rw (ne-eqb (lowest a) 0 h)
 
--- a call goes by the lowest refusal alone
-pub outcome-same : {A : Type 0} (a b : List Refusal) (new old : A) → lowest a ≡ lowest b → outcome a new old ≡ outcome b new old
-unfolding outcome
-outcome-same a b new old e = rw e
-
--- refused by the first part of its refusals, a call gives that part's number
-pub refused-first : {A : Type 0} (a b : List Refusal) (new old : A) → (lowest a ≡ 0 → ⊥)
-    → outcome (a ++ b) new old ≡ record { reply = lowest a; left = old }
-refused-first a b new old h =
-    let e = refused-before a b h in
-    outcome-refused (a ++ b) new old (λ z. h (sym e ∙ z)) ∙ rw e
-
 -- what a test of a reply's number, n, says of the refusals that the reply is the lowest of
 pub still-refused : {n m k : ℕ} → n ≡ m → m ≡ k → (n ≡ 0 → ⊥) → k ≡ 0 → ⊥
 still-refused e f h z = h (e ∙ f ∙ z)
@@ -116,21 +104,3 @@ still-passed e f z = sym (e ∙ f) ∙ z
 pub given-number : {A : Type 0} (a : List Refusal) (new old : A) {r : ℕ} {x : A} → record { reply = r; left = x } ≡ outcome a new old → r ≡ lowest a
 unfolding outcome
 given-number a new old e = ap (λ (o : Outcome _). o .reply) e
-
--- a call by way of another whose lowest refusal is its own: it is refused as that one is, and done as that one is
-module _ {A B : Type 0} (a b : List Refusal) (same : lowest a ≡ lowest b) (new old : A) (new′ old′ : B) where
-  pub refused-within : {r : ℕ} {x : B} → record { reply = r; left = x } ≡ outcome b new′ old′ → (r ≡ 0 → ⊥)
-      → (outcome a new old ≡ record { reply = r; left = old }) × (x ≡ old′)
-  refused-within {r} {x} e h =
-      let p = given-number b new′ old′ e in
-      let q = outcome-refused b new′ old′ (λ z. h (p ∙ z)) in
-      let w = outcome-refused a new old (λ z. h (p ∙ sym same ∙ z)) in
-      (w ∙ rw (same ∙ sym p), ap (λ (o : Outcome B). o .left) (e ∙ q))
-
-  pub done-within : {r : ℕ} {x : B} → record { reply = r; left = x } ≡ outcome b new′ old′ → r ≡ 0
-      → (outcome a new old ≡ record { reply = r; left = new }) × (x ≡ new′)
-  done-within {r} {x} e h =
-      let p = given-number b new′ old′ e in
-      let q = outcome-done b new′ old′ (sym p ∙ h) in
-      let w = outcome-done a new old (same ∙ sym p ∙ h) in
-      (w ∙ rw h, ap (λ (o : Outcome B). o .left) (e ∙ q))

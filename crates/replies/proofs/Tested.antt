@@ -1,9 +1,11 @@
 -- A call that tests a reply r by its number n: what it leaves, and which refusal is its lowest.
 -- Each holds since n is the lowest of the refusals that r was asked of.
-use mathlib.Core.Path.{_≡_, sym, _∙_}
-use mathlib.Core.Bool.{true}
+use mathlib.Core.Path.{_≡_, refl, sym, _∙_}
+use mathlib.Core.Bool.{Bool, true, false, cond}
 use mathlib.Core.List.{List, _++_}
 use Prim.Native.Nat.{ℕ}
+use lib.Dec.{eqb}
+use borrow.Author.Tests.{eqb-true, eqb-false}
 use Rattle.replies.specs.Outcome.{Refusal, lowest, outcome}
 use Rattle.replies.proofs.Refusals.{rising, still-passed, still-refused, lowest-none, passed-before, refused-before, outcome-done, outcome-refused}
 
@@ -21,3 +23,11 @@ module _ (a : List Refusal) {r n : ℕ} (e : r ≡ lowest a) (q : n ≡ r) where
 
   pub first-passed : (b : List Refusal) {x : ℕ} → rising 0 a ≡ true → n ≡ 0 → x ≡ lowest b → x ≡ lowest (a ++ b)
   first-passed b t z w = w ∙ sym (passed-before a b (lowest-none 0 a t (still-passed q e z)))
+
+-- the first of two replies is the lowest of both lists
+pub first-lowest : (a b : List Refusal) {r x : ℕ} → rising 0 a ≡ true → r ≡ lowest a → x ≡ lowest b → cond (eqb r 0) x r ≡ lowest (a ++ b)
+first-lowest a b {r} {x} t e w = by (eqb r 0) refl
+  where
+    by : (z : Bool) → eqb r 0 ≡ z → cond z x r ≡ lowest (a ++ b)
+    by true z = first-passed a e refl b t (eqb-true r 0 z) w
+    by false z = first-refused a e refl b (eqb-false r 0 z)

@@ -1,5 +1,7 @@
 // The answer of a call, and the paper's number for it: the paper's section Replies.
 ghost use mathlib.Core.Path.{_≡_};
+ghost use mathlib.Core.Bool.{cond};
+ghost use lib.Dec.{eqb};
 ghost use Rattle.replies.specs.Reply.{replyNumber};
 
 pub enum Reply {
@@ -43,4 +45,18 @@ pub fn number(reply: Reply) -> u32
         Reply::Full => 9,
         Reply::Sequence => 10,
     }
+}
+
+// `reply` where a refusal's condition holds, else `other`.
+pub fn refuse(holds: bool, reply: Reply, other: Reply) -> Reply
+    ensures { λ r. ⌜ replyNumber r ≡ cond holds (replyNumber reply) (replyNumber other) ⌝ }
+{
+    if holds { reply } else { other }
+}
+
+// The first of two replies that is a refusal: `reply`, or else `other`.
+pub fn first_of(reply: Reply, other: Reply) -> Reply
+    ensures { λ r. ⌜ replyNumber r ≡ cond (eqb (replyNumber reply) 0) (replyNumber other) (replyNumber reply) ⌝ }
+{
+    refuse(number(reply) == 0, other, reply)
 }

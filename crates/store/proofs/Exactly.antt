@@ -1,30 +1,27 @@
 -- Each call's reply is n exactly when the condition of n holds and that of no lower number does.
 -- Each holds by the law of the lowest refusal: the numbers of each call rise.
 use mathlib.Core.Path.{_≡_, refl}
-use mathlib.Core.Bool.{not}
-use mathlib.Core.List.{List, [], _∷_, _++_}
+use mathlib.Core.List.{List, _++_}
 use mathlib.Core.Logic.{_↔_}
-use Prim.Native.Nat.{ℕ, _+_}
-use lib.Dec.{leb}
+use Prim.Native.Nat.{ℕ}
 use lib.ListN.{length}
-use Rattle.replies.specs.Outcome.{_when_, Applies, outcome}
+use Rattle.replies.specs.Outcome.{Applies, outcome}
 use Rattle.replies.proofs.Refusals.{exactly}
 use Rattle.shapes.specs.declared.Shape.{Shape}
 use Rattle.shapes.specs.Buffers.{Buffers}
-use Rattle.cells.specs.Calls.{room, appendRefusals, removeRefusals, readRefusals}
 use Rattle.store.specs.declared.Record.{Record}
-use Rattle.store.specs.Record.{seqLen, lengthOf}
-use Rattle.store.specs.Calls.{recordRefusals, storeRefusals, openOf, appendOf, truncateOf, advanceOf, cachedLenOf, memoryBytesOf, readOf}
+use Rattle.store.specs.Record.{lengthOf}
+use Rattle.store.specs.Calls.{bufferRefusals, recordRefusals, storeRefusals, appendRefusals, removeRefusals, readRefusals, sequenceRefusal, openOf, appendOf, truncateOf, advanceOf, cachedLenOf, memoryBytesOf, readOf}
 
 -- open: 1, 2
-pub open-exactly : (s : Shape) (b : Buffers) (n : ℕ) → (openOf s b .reply ≡ n) ↔ Applies n (room s b)
+pub open-exactly : (s : Shape) (b : Buffers) (n : ℕ) → (openOf s b .reply ≡ n) ↔ Applies n (bufferRefusals s b)
 unfolding openOf outcome
-open-exactly s b n = exactly 0 n (room s b) refl
+open-exactly s b n = exactly 0 n (bufferRefusals s b) refl
 
 module _ (r : Record) where
   -- advance: 1, 3, 10
   pub advance-exactly : (count n : ℕ)
-      → (advanceOf r count .reply ≡ n) ↔ Applies n (recordRefusals r ++ ((10 when not (leb (seqLen r + count) 4294967295)) ∷ []))
+      → (advanceOf r count .reply ≡ n) ↔ Applies n (recordRefusals r ++ sequenceRefusal r count)
   unfolding advanceOf outcome
   advance-exactly count n = exactly 0 n _ refl
 

@@ -9,7 +9,7 @@ use lib.Seq.{set-getD}
 use Rattle.replies.specs.Outcome.{Refusal, lowest, outcome}
 use Rattle.replies.proofs.Flags.{alike}
 use Rattle.shapes.specs.Buffers.{Buffers}
-use Rattle.cells.proofs.Nothing.{no-positions, removed-none, appended-none}
+use Rattle.buffers.proofs.Nothing.{no-positions, removed-none, appended-none}
 use Rattle.store.specs.declared.Record.{Record}
 use Rattle.store.specs.Record.{lengthOf, withLength}
 use Rattle.store.specs.Calls.{store, appendOf, truncateOf}

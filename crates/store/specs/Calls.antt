@@ -1,14 +1,16 @@
 -- What each call answers and leaves, refusals too: the paper's sections Replies and Calls.
 use Prim.Native.Nat.{ℕ, _+_, min}
-use mathlib.Core.Bool.{not}
+use mathlib.Core.Bool.{Bool, not, _&&_}
 use mathlib.Core.List.{List, [], _∷_, _++_}
-use lib.Dec.{leb}
+use lib.Dec.{eqb, ltb, leb}
 use lib.ListN.{length, replicate}
 use Rattle.replies.specs.Outcome.{Refusal, _when_, Outcome, outcome, answered}
-use Rattle.shapes.specs.Shape.{cellTotal, scaleTotal, within}
+use Rattle.shapes.specs.Shape.{headSize, positions, cellTotal, scaleTotal, within, roomRefusals}
 use Rattle.shapes.specs.declared.Shape.{Shape}
 use Rattle.shapes.specs.Buffers.{Buffers, buffers}
-use Rattle.cells.specs.Calls.{positions, appended, removed, rowAt, room, appendRefusals, removeRefusals, readRefusals}
+use Rattle.rows.specs.Row.{rowNumbers}
+use Rattle.places.specs.Place.{cellsAt, scalesAt}
+use Rattle.buffers.specs.Calls.{appended, removed, wholeRows}
 use Rattle.store.specs.declared.Record.{Record}
 use Rattle.store.specs.declared.Changed.{Changed}
 use Rattle.store.specs.declared.Counted.{Counted}
@@ -22,15 +24,48 @@ pub record Store : Type 0 where
 abbrev pub store : Record → Buffers → Store
 store r b = record { rec = r; lent = b }
 
--- the refusals of a record, alone and with both buffers
+-- the refusals of the two buffers' lengths
+abbrev pub bufferRefusals : Shape → Buffers → List Refusal
+bufferRefusals s b = roomRefusals s (length (b .cells)) (length (b .scales))
+
+-- the refusals of a record, alone, with buffers of some lengths, and with both buffers
 abbrev pub lengthsRefusal : Record → List Refusal
 lengthsRefusal r = (3 when not (goodLengths r)) ∷ []
 
 abbrev pub recordRefusals : Record → List Refusal
 recordRefusals r = (1 when not (within (r .shape))) ∷ lengthsRefusal r
 
+abbrev pub lentRefusals : Record → ℕ → ℕ → List Refusal
+lentRefusals r cells scales = roomRefusals (r .shape) cells scales ++ lengthsRefusal r
+
 abbrev pub storeRefusals : Record → Buffers → List Refusal
-storeRefusals r b = room (r .shape) b ++ lengthsRefusal r
+storeRefusals r b = lentRefusals r (length (b .cells)) (length (b .scales))
+
+-- the conditions of replies 4, 5 and 9: a layer and a head that are there, and room for as many keys past `held` positions
+abbrev pub hasLayer : Shape → ℕ → Bool
+hasLayer s l = ltb l (s .layers)
+
+abbrev pub hasHead : Shape → ℕ → ℕ → Bool
+hasHead s side h = ltb h (s .heads) && ltb side 2
+
+abbrev pub fitsAfter : Shape → ℕ → ℕ → Bool
+fitsAfter s held keys = leb (held + positions s keys) (s .capacity)
+
+-- the refusals of each call past those of the store, where layer l has `held` positions
+abbrev pub appendRefusals : Shape → ℕ → ℕ → ℕ → ℕ → List Refusal
+appendRefusals s l held keys values =
+    (4 when not (hasLayer s l)) ∷ (7 when not (wholeRows s keys values)) ∷ (9 when not (fitsAfter s held keys)) ∷ []
+
+abbrev pub removeRefusals : Shape → ℕ → List Refusal
+removeRefusals s l = (4 when not (hasLayer s l)) ∷ []
+
+abbrev pub readRefusals : Shape → ℕ → ℕ → ℕ → ℕ → ℕ → ℕ → List Refusal
+readRefusals s l held side h p out =
+    (4 when not (hasLayer s l))
+    ∷ (5 when not (hasHead s side h))
+    ∷ (7 when not (eqb out (headSize s)))
+    ∷ (8 when not (ltb p held))
+    ∷ []
 
 -- open: all zero
 abbrev pub empty : Shape → Store
@@ -40,7 +75,7 @@ abbrev pub noShape : Shape
 noShape = record { format = 0; layers = 0; heads = 0; «head_size» = 0; capacity = 0 }
 
 unfoldable pub openOf : Shape → Buffers → Outcome Store
-openOf s b = outcome (room s b) (empty s) (store (newRecord noShape) b)
+openOf s b = outcome (bufferRefusals s b) (empty s) (store (newRecord noShape) b)
 
 -- append: the rows after the layer's positions, and its length
 unfoldable pub appendOf : Record → Buffers → ℕ → List ℕ → List ℕ → Outcome Store
@@ -48,8 +83,7 @@ appendOf r b l keys values =
     let s = r .shape in
     let held = lengthOf r l in
     outcome (storeRefusals r b ++ appendRefusals s l held (length keys) (length values))
-    (store (withLength r l (held + positions s (length keys))) (appended s l held keys values b))
-    (store r b)
+    (store (withLength r l (held + positions s (length keys))) (appended s l held keys values b)) (store r b)
 
 -- truncate a layer to t: the positions from t on, and its length
 unfoldable pub truncateOf : Record → Buffers → ℕ → ℕ → Outcome Store
@@ -61,9 +95,11 @@ truncateOf r b l t =
     (store r b)
 
 -- advance: the sequence number alone
+abbrev pub sequenceRefusal : Record → ℕ → List Refusal
+sequenceRefusal r count = (10 when not (leb (seqLen r + count) 4294967295)) ∷ []
+
 unfoldable pub advanceOf : Record → ℕ → Outcome Record
-advanceOf r count =
-    outcome (recordRefusals r ++ ((10 when not (leb (seqLen r + count) 4294967295)) ∷ [])) (withSeqLen r (seqLen r + count)) r
+advanceOf r count = outcome (recordRefusals r ++ sequenceRefusal r count) (withSeqLen r (seqLen r + count)) r
 
 -- the length of a layer, and the byte count; 0 where refused
 unfoldable pub cachedLenOf : Record → ℕ → Outcome ℕ
@@ -71,6 +107,10 @@ cachedLenOf r l = outcome (recordRefusals r ++ removeRefusals (r .shape) l) (len
 
 unfoldable pub memoryBytesOf : Record → Outcome ℕ
 memoryBytesOf r = outcome (recordRefusals r) (byteCount r) 0
+
+-- the numbers that layer l, a side, head h, position p reads as
+unfoldable pub rowAt : Shape → ℕ → ℕ → ℕ → ℕ → Buffers → List ℕ
+rowAt s l side h p b = rowNumbers (s .format) (headSize s) (cellsAt s l side h p b) (scalesAt s l side h p b)
 
 -- read a row
 unfoldable pub readOf : Record → Buffers → ℕ → ℕ → ℕ → ℕ → List ℕ → Outcome (List ℕ)

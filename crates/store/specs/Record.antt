@@ -1,12 +1,10 @@
 -- The record, its lengths and the byte count: the paper's Record, under Shape and room, reply 3, and Lengths and bytes, under Calls.
-use Prim.Native.Nat.{ℕ, _+_, _*_, _≤_, _<_}
-use mathlib.Core.Path.{_≡_}
-use mathlib.Core.Bool.{Bool, true, cond, not}
+use Prim.Native.Nat.{ℕ, _+_, _*_}
+use mathlib.Core.Bool.{Bool, cond, not}
 use lib.Dec.{ltb}
 use lib.ListN.{getD, set, replicate}
 use Rattle.lists.specs.Chunks.{turns, some}
-use Rattle.cells.specs.Calls.{positions}
-use Rattle.shapes.specs.Shape.{bytesOf, wordsOf, within}
+use Rattle.shapes.specs.Shape.{bytesOf, wordsOf}
 use Rattle.shapes.specs.declared.Shape.{Shape}
 use Rattle.store.specs.declared.Record.{Record}
 
@@ -41,9 +39,3 @@ positionBytes s = 2 * s .heads * (bytesOf s + 4 * wordsOf s)
 
 unfoldable pub byteCount : Record → ℕ
 byteCount r = turns (r .shape .layers) (λ l sum. sum + lengthOf r l * positionBytes (r .shape)) 0
-
--- what the function that lengthens a layer asks: the calls test for it
-pub record Grows (r : Record) (l held numbers : ℕ) : Type 0 where
-  pub in-record : l < 128
-  pub in-shape : within (r .shape) ≡ true
-  pub span : held + positions (r .shape) numbers ≤ r .shape .capacity

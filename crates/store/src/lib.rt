@@ -1,9 +1,13 @@
 // The store: a cache of keys and values in lent buffers, with the record that says what it holds. The Rust's `KvStore`.
-use cells::append_rows;
-use cells::clear_all;
-use cells::remove_rows;
+use buffers::append_rows;
+use buffers::clear_all;
+use buffers::remove_rows;
+use places::span_of;
 use replies::Reply;
+use replies::first_of;
 use replies::number;
+use replies::refuse;
+use decode::get_row;
 use shapes::Shape;
 use shapes::cell_bytes;
 use shapes::is_within;
@@ -12,14 +16,15 @@ use shapes::scale_words;
 ghost use mathlib.Core.Path.{_≡_};
 ghost use mathlib.Core.List.{_++_};
 ghost use mathlib.Core.Bool.{true};
-ghost use Prim.Native.Nat.{_+_, _<_, min};
+ghost use Prim.Native.Nat.{_<_, min};
+ghost use lib.ListN.{length};
 ghost use Rattle.replies.specs.Reply.{replyNumber};
 ghost use Rattle.replies.specs.Outcome.{lowest, answered};
-ghost use Rattle.shapes.specs.Shape.{within, roomRefusals};
+ghost use Rattle.shapes.specs.Shape.{within};
 ghost use Rattle.shapes.specs.Buffers.{buffers};
-ghost use Rattle.cells.specs.Calls.{positions};
-ghost use Rattle.store.specs.Record.{lengthOf, mostOf, goodLengths, newRecord, withLength, positionBytes, byteCount, Grows};
-ghost use Rattle.store.specs.Calls.{noShape, left, changed, counted, lengthsRefusal, recordRefusals};
+ghost use Rattle.store.specs.Record.{lengthOf, mostOf, goodLengths, newRecord, withLength, positionBytes, byteCount};
+ghost use Rattle.store.specs.Calls.{noShape, left, changed, counted, recordRefusals, lentRefusals};
+ghost use Rattle.store.specs.Calls.{appendRefusals, removeRefusals, readRefusals, sequenceRefusal};
 ghost use Rattle.store.specs.Calls.{openOf, appendOf, truncateOf, advanceOf, cachedLenOf, memoryBytesOf, readOf};
 
 // A shape, the positions of each layer, and the sequence number that the host counts.
@@ -52,11 +57,9 @@ pub fn open(shape: Shape, cells: &mut [u8], scales: &mut [u32]) -> Changed
             after: not_open(),
         };
     }
+    let after = new_record(shape);
     clear_all(cells, scales);
-    Changed {
-        reply,
-        after: new_record(shape),
-    }
+    Changed { reply, after }
 }
 
 // The record where no store is open: no layers.
@@ -87,25 +90,18 @@ pub fn append(
         ≡ appendOf «record» (buffers (now (cells .entry)) (now (scales .entry))) layer (now (keys .entry)) (now (values .entry))
         ⌝ }
 {
-    let first = store_reply(record, cells.len(), scales.len());
-    if number(first) != 0 {
+    let reply = append_reply(record, layer, keys, values, cells.len(), scales.len());
+    if number(reply) != 0 {
         return Changed {
-            reply: first,
+            reply,
             after: record,
         };
     }
     let held = length_of(record, layer);
-    let put = append_rows(record.shape, layer, held, keys, values, cells, scales);
-    if number(put) != 0 {
-        return Changed {
-            reply: put,
-            after: record,
-        };
-    }
-    Changed {
-        reply: put,
-        after: grown(record, layer, held, keys.len()),
-    }
+    let n = keys.len() / (record.shape.heads as usize * record.shape.head_size as usize);
+    let after = with_length(record, layer, held + n as u32);
+    append_rows(record.shape, layer, held, keys, values, cells, scales);
+    Changed { reply, after }
 }
 
 // Keeps the first `t` positions of a layer. The Rust's `truncate_to`.
@@ -122,71 +118,48 @@ pub fn truncate_to(
         ≡ truncateOf «record» (buffers (now (cells .entry)) (now (scales .entry))) layer t
         ⌝ }
 {
-    let first = store_reply(record, cells.len(), scales.len());
-    if number(first) != 0 {
+    let reply = truncate_reply(record, layer, cells.len(), scales.len());
+    if number(reply) != 0 {
         return Changed {
-            reply: first,
+            reply,
             after: record,
         };
     }
     let held = length_of(record, layer);
-    let cut = remove_rows(record.shape, layer, held, t, cells, scales);
-    if number(cut) != 0 {
-        return Changed {
-            reply: cut,
-            after: record,
-        };
-    }
-    Changed {
-        reply: cut,
-        after: with_length(record, layer, smaller(held, t)),
-    }
+    let after = with_length(record, layer, smaller(held, t));
+    remove_rows(record.shape, layer, held, t, cells, scales);
+    Changed { reply, after }
 }
 
 // Adds to the sequence number. The Rust's `advance_seq_len`.
 pub fn advance_seq_len(record: Record, count: u32) -> Changed
     ensures { λ r. ⌜ changed r ≡ advanceOf «record» count ⌝ }
 {
-    let first = record_reply(record);
-    if number(first) != 0 {
+    let reply = advance_reply(record, count);
+    if number(reply) != 0 {
         return Changed {
-            reply: first,
-            after: record,
-        };
-    }
-    if 4_294_967_295 - record.seq_len < count {
-        return Changed {
-            reply: Reply::Sequence,
+            reply,
             after: record,
         };
     }
     let mut next = record;
     next.seq_len = record.seq_len + count;
-    Changed {
-        reply: Reply::Done,
-        after: next,
-    }
+    Changed { reply, after: next }
 }
 
 // The positions of a layer. The Rust's `cached_len`.
 pub fn cached_len(record: Record, layer: u32) -> Counted
     ensures { λ r. ⌜ counted r ≡ cachedLenOf «record» layer ⌝ }
 {
-    let first = record_reply(record);
-    if number(first) != 0 {
-        return Counted {
-            reply: first,
-            count: 0,
-        };
-    }
-    if record.shape.layers <= layer {
-        return Counted {
-            reply: Reply::Layer,
-            count: 0,
-        };
+    let reply = first_of(
+        record_reply(record),
+        refuse(!(layer < record.shape.layers), Reply::Layer, Reply::Done),
+    );
+    if number(reply) != 0 {
+        return Counted { reply, count: 0 };
     }
     Counted {
-        reply: Reply::Done,
+        reply,
         count: length_of(record, layer) as u64,
     }
 }
@@ -195,15 +168,12 @@ pub fn cached_len(record: Record, layer: u32) -> Counted
 pub fn memory_bytes(record: Record) -> Counted
     ensures { λ r. ⌜ counted r ≡ memoryBytesOf «record» ⌝ }
 {
-    let first = record_reply(record);
-    if number(first) != 0 {
-        return Counted {
-            reply: first,
-            count: 0,
-        };
+    let reply = record_reply(record);
+    if number(reply) != 0 {
+        return Counted { reply, count: 0 };
     }
     Counted {
-        reply: Reply::Done,
+        reply,
         count: bytes_of_layers(record),
     }
 }
@@ -225,50 +195,122 @@ pub fn read_row(
         ≡ readOf «record» (buffers (now (cells .entry)) (now (scales .entry))) layer side head position (now (out .entry))
         ⌝ }
 {
-    let first = store_reply(record, cells.len(), scales.len());
-    if number(first) != 0 {
-        return first;
-    }
-    let held = length_of(record, layer);
-    cells::read_row(
-        record.shape,
+    let reply = read_reply(
+        record,
         layer,
-        held,
         side,
         head,
         position,
-        cells,
-        scales,
-        out,
-    )
+        out.len(),
+        cells.len(),
+        scales.len(),
+    );
+    if number(reply) == 0 {
+        let span = span_of(record.shape, layer, side, head, position as usize, 1);
+        let a = span.cells_from;
+        let b = span.cells_to;
+        let c = span.scales_from;
+        let d = span.scales_to;
+        get_row(record.shape.format, &cells[a..b], &scales[c..d], out);
+    }
+    reply
 }
 
 // The lowest refusal of a record and of the lengths of its buffers.
 pub fn store_reply(record: Record, cells: usize, scales: usize) -> Reply
-    ensures { λ r. ⌜ replyNumber r ≡ lowest (roomRefusals («record» .shape) cells scales ++ lengthsRefusal «record») ⌝ }
+    ensures { λ r. ⌜ replyNumber r ≡ lowest (lentRefusals «record» cells scales) ⌝ }
 {
-    let room = room_reply(record.shape, cells, scales);
-    if number(room) != 0 {
-        return room;
-    }
-    if has_good_lengths(record) {
-        Reply::Done
-    } else {
-        Reply::Lengths
-    }
+    let lengths = refuse(!has_good_lengths(record), Reply::Lengths, Reply::Done);
+    first_of(room_reply(record.shape, cells, scales), lengths)
 }
 
 fn record_reply(record: Record) -> Reply
     ensures { λ r. ⌜ replyNumber r ≡ lowest (recordRefusals «record») ⌝ }
 {
-    if !is_within(record.shape) {
-        return Reply::Shape;
+    let lengths = refuse(!has_good_lengths(record), Reply::Lengths, Reply::Done);
+    refuse(!is_within(record.shape), Reply::Shape, lengths)
+}
+
+fn append_reply(
+    record: Record,
+    layer: u32,
+    keys: &[u32],
+    values: &[u32],
+    cells: usize,
+    scales: usize,
+) -> Reply
+    ensures { λ r.
+        ⌜
+        replyNumber r
+        ≡ lowest
+        (lentRefusals «record» cells scales
+        ++ appendRefusals («record» .shape) layer (lengthOf «record» layer) (length (now (keys .entry))) (length (now (values .entry))))
+        ⌝ }
+{
+    let first = store_reply(record, cells, scales);
+    if number(first) != 0 {
+        return first;
     }
-    if has_good_lengths(record) {
-        Reply::Done
-    } else {
-        Reply::Lengths
-    }
+    let width = record.shape.heads as usize * record.shape.head_size as usize;
+    let after = length_of(record, layer) as usize + keys.len() / width;
+    let full = refuse(
+        !(after <= record.shape.capacity as usize),
+        Reply::Full,
+        Reply::Done,
+    );
+    let whole = (keys.len() % width == 0) & (values.len() == keys.len());
+    let size = refuse(!whole, Reply::Size, full);
+    refuse(!(layer < record.shape.layers), Reply::Layer, size)
+}
+
+fn truncate_reply(record: Record, layer: u32, cells: usize, scales: usize) -> Reply
+    ensures { λ r. ⌜ replyNumber r ≡ lowest (lentRefusals «record» cells scales ++ removeRefusals («record» .shape) layer) ⌝ }
+{
+    first_of(
+        store_reply(record, cells, scales),
+        refuse(!(layer < record.shape.layers), Reply::Layer, Reply::Done),
+    )
+}
+
+fn advance_reply(record: Record, count: u32) -> Reply
+    ensures { λ r. ⌜ replyNumber r ≡ lowest (recordRefusals «record» ++ sequenceRefusal «record» count) ⌝ }
+{
+    let rest = 4_294_967_295 - record.seq_len;
+    first_of(
+        record_reply(record),
+        refuse(!(count <= rest), Reply::Sequence, Reply::Done),
+    )
+}
+
+fn read_reply(
+    record: Record,
+    layer: u32,
+    side: u32,
+    head: u32,
+    position: u32,
+    out: usize,
+    cells: usize,
+    scales: usize,
+) -> Reply
+    ensures { λ r.
+        ⌜
+        replyNumber r
+        ≡ lowest
+        (lentRefusals «record» cells scales ++ readRefusals («record» .shape) layer (lengthOf «record» layer) side head position out)
+        ⌝ }
+{
+    let shape = record.shape;
+    let there = refuse(
+        !(position < length_of(record, layer)),
+        Reply::Position,
+        Reply::Done,
+    );
+    let size = refuse(!(out == shape.head_size as usize), Reply::Size, there);
+    let block = refuse(!((head < shape.heads) & (side < 2)), Reply::Head, size);
+    first_of(
+        store_reply(record, cells, scales),
+        refuse(!(layer < shape.layers), Reply::Layer, block),
+    )
 }
 
 // Whether each length is at most the capacity, and 0 past the layers.
@@ -316,15 +358,6 @@ fn with_length(record: Record, layer: u32, n: u32) -> Record
     let l = layer as usize;
     next.lens[l] = n;
     next
-}
-
-// The record once the positions that `numbers` numbers are have been appended.
-fn grown(record: Record, layer: u32, held: u32, numbers: usize) -> Record
-    requires { ⌜ Grows «record» layer held numbers ⌝ }
-    ensures { λ r. ⌜ r ≡ withLength «record» layer (held + positions («record» .shape) numbers) ⌝ }
-{
-    let width = record.shape.heads as usize * record.shape.head_size as usize;
-    with_length(record, layer, held + (numbers / width) as u32)
 }
 
 fn new_record(shape: Shape) -> Record

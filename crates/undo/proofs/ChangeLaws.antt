@@ -9,8 +9,8 @@ use lib.Dec.{eqb}
 use lib.ListN.{length, take}
 use borrow.Author.Tests.{lt-ltb, eqb-true, eqb-false}
 use Rattle.shapes.specs.Buffers.{Buffers}
-use Rattle.cells.specs.Calls.{positions, appended, removed}
-use Rattle.cells.specs.Fits.{RowsIn}
+use Rattle.shapes.specs.Shape.{positions}
+use Rattle.buffers.specs.Calls.{appended, removed, wholeRows}
 use Rattle.store.specs.declared.Record.{Record}
 use Rattle.store.specs.Record.{lengthOf, withLength, withSeqLen}
 use Rattle.store.specs.Calls.{store}
@@ -46,15 +46,15 @@ module _ {r : Record} {b : Buffers} {of : ℕ → Rows} (x : Renders (r .shape) 
 
   -- accepted, an append and a truncation leave such a store
   pub append-done : (l : ℕ) (keys values : List ℕ) → l < r .shape .layers
-      → RowsIn (r .shape) (lengthOf r l) (length keys) (length values)
+      → wholeRows (r .shape) (length keys) (length values) ≡ true → lengthOf r l + positions (r .shape) (length keys) ≤ r .shape .capacity
       → Renders (r .shape) (store (withLength r l (lengthOf r l + positions (r .shape) (length keys)))
       (appended (r .shape) l (lengthOf r l) keys values b))
       (λ m. kept (r .shape) m (of m) (append l keys values))
-  append-done l keys values w q =
+  append-done l keys values w q v =
       let held = lengthOf r l in
-      layer-changed l _ (λ m. of m ++ rowsOf (r .shape) keys values) _ w (append-own b (in-room x w) held keys values q (x .layer l))
-      (λ m d. append-others b (in-room x w) held keys values q d (x .layer m))
-      (append-sizes b (in-room x w) held keys values q)
+      layer-changed l _ (λ m. of m ++ rowsOf (r .shape) keys values) _ w (append-own b (in-room x w) held keys values q v (x .layer l))
+      (λ m d. append-others b (in-room x w) held keys values q v d (x .layer m))
+      (append-sizes b (in-room x w) held keys values q v)
 
   pub truncate-done : (l n : ℕ) → l < r .shape .layers
       → Renders (r .shape) (store (withLength r l (min (lengthOf r l) n)) (removed (r .shape) l (lengthOf r l) n b))

@@ -8,8 +8,8 @@ use borrow.Author.Tests.{le-ltb}
 use Rattle.shapes.specs.declared.Shape.{Shape}
 use Rattle.shapes.specs.Shape.{bytesOf, wordsOf}
 use Rattle.shapes.specs.Buffers.{Buffers}
-use Rattle.layers.proofs.PlaceLaws.{Place}
-use Rattle.cells.specs.Calls.{cellsAt, scalesAt}
+use Rattle.places.specs.Place.{cellsAt, scalesAt}
+use Rattle.places.proofs.PlaceLaws.{Place}
 use Rattle.store.specs.Record.{lengthOf, goodLengths, byteCount}
 use Rattle.store.specs.Calls.{Store, openOf, cachedLenOf, memoryBytesOf, readOf}
 use Rattle.heads.specs.Calls.{headScoresOf, headSumsOf}

@@ -12,39 +12,34 @@ use Rattle.shapes.specs.declared.Shape.{Shape}
 use Rattle.shapes.specs.Shape.{bytesOf, wordsOf, total}
 use Rattle.rows.specs.Row.{rowCells, rowScales}
 use Rattle.shapes.specs.Buffers.{Buffers}
-use Rattle.layers.specs.Layer.{zeros}
-use Rattle.layers.proofs.LayerLaws.{written-none}
-use Rattle.layers.proofs.PlaceLaws.{Written}
-use Rattle.cells.specs.Calls.{removed}
-use Rattle.cells.specs.Fits.{InRoom}
+use Rattle.buffers.specs.Write.{zeros}
+use Rattle.buffers.specs.Calls.{removed}
+use Rattle.buffers.proofs.WriteLaws.{Written, written-size}
+use Rattle.buffers.proofs.Nothing.{removed-none}
 use Rattle.undo.specs.Survivors.{Rows}
 use Rattle.undo.proofs.RowLaws.{holds-cut}
 use Rattle.undo.proofs.NumberLaws.{whole-first, first-rows}
-use Rattle.undo.proofs.LayerLaws.{HasRows, Sizes, written-size, has-still}
+use Rattle.undo.proofs.LayerLaws.{HasRows, Sizes, InRoom, has-still}
 
 -- layer m, which has `held` positions, truncated to t: positions are removed where t is below `held`
-module _ {s : Shape} {m : ℕ} (b : Buffers) (k : InRoom s m (length (b .cells)) (length (b .scales))) (held t : ℕ) (w : held ≤ s .capacity) where
-  removed-none : held ≤ t → removed s m held t b ≡ b
-  unfolding removed
-  removed-none h = let e : held - t ≡ 0 = omega arith in rw (e, written-none (bytesOf s), written-none (wordsOf s))
-
+module _ {s : Shape} {m : ℕ} (b : Buffers) (k : InRoom s m b) (held t : ℕ) (w : held ≤ s .capacity) where
   cut-or-not : (P : Buffers → Type 0) → Dec (t < held) → (t < held → P (removed s m held t b)) → (held ≤ t → P b) → P (removed s m held t b)
   cut-or-not P (yes u) x y = x u
-  cut-or-not P (no u) x y = subst P (sym (removed-none (omega arith))) (y (omega arith))
+  cut-or-not P (no u) x y = subst P (sym (removed-none s m held b t (omega arith))) (y (omega arith))
 
   cut : (a : ℕ) {buf : List ℕ} → t < held → length buf ≡ total a s → Written a s m t (held - t) (zeros a) buf
   cut a u e = record { layer = k .layer; span = omega arith; sized = λ side x h y i z. length-replicate a 0; whole = e }
 
   cut-sizes : t < held → Sizes s (removed s m held t b)
   unfolding removed
-  cut-sizes u = (written-size (cut (bytesOf s) u (k .cell-size)), written-size (cut (wordsOf s) u (k .scale-size)))
+  cut-sizes u = (written-size (cut (bytesOf s) u (k .sizes .0)), written-size (cut (wordsOf s) u (k .sizes .1)))
 
   pub truncate-sizes : Sizes s (removed s m held t b)
-  truncate-sizes = cut-or-not (Sizes s) (decLt t held) cut-sizes (λ h. (k .cell-size, k .scale-size))
+  truncate-sizes = cut-or-not (Sizes s) (decLt t held) cut-sizes (λ h. k .sizes)
 
   cut-others : t < held → {l n : ℕ} {r : Rows} → l ≢ m → HasRows s l n r b → HasRows s l n r (removed s m held t b)
   unfolding removed
-  cut-others u d x = has-still b d x (cut (bytesOf s) u (k .cell-size)) (cut (wordsOf s) u (k .scale-size))
+  cut-others u d x = has-still b d x (cut (bytesOf s) u (k .sizes .0)) (cut (wordsOf s) u (k .sizes .1))
 
   pub truncate-others : {l n : ℕ} {r : Rows} → l ≢ m → HasRows s l n r b → HasRows s l n r (removed s m held t b)
   truncate-others {l} {n} {r} d x = cut-or-not (HasRows s l n r) (decLt t held) (λ u. cut-others u d x) (λ h. x)
@@ -58,8 +53,8 @@ module _ {s : Shape} {m : ℕ} (b : Buffers) (k : InRoom s m (length (b .cells))
         count = length-take-le t r (omega (arith, x .count));
         whole = whole-first (x .whole) t;
         span = omega (arith, x .span);
-        cells-held = holds-cut (x .cells-held) (cut (bytesOf s) u (k .cell-size)) u (first-rows (rowCells (s .format)) s r t);
-        scales-held = holds-cut (x .scales-held) (cut (wordsOf s) u (k .scale-size)) u (first-rows (rowScales (s .format)) s r t);
+        cells-held = holds-cut (x .cells-held) (cut (bytesOf s) u (k .sizes .0)) u (first-rows (rowCells (s .format)) s r t);
+        scales-held = holds-cut (x .scales-held) (cut (wordsOf s) u (k .sizes .1)) u (first-rows (rowScales (s .format)) s r t);
       })
 
   pub truncate-own : {r : Rows} → HasRows s m held r b → HasRows s m (min held t) (take t r) (removed s m held t b)

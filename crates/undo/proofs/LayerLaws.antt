@@ -4,23 +4,19 @@ use mathlib.Core.Path.{_≡_, refl, _∙_}
 use mathlib.Core.Bool.{true}
 use mathlib.Core.Logic.{_≢_}
 use mathlib.Core.List.{List, _++_}
-use Prim.Native.Nat.{ℕ, _+_, _*_, _≤_}
+use Prim.Native.Nat.{ℕ, _+_, _*_, _≤_, _<_}
 use native.Mathlib.Omega.{arith}
 use lib.ListN.{length, replicate, length-append}
 use borrow.Author.Tests.{lt-ltb}
 use Rattle.lists.proofs.Tab.{tab-length}
 use Rattle.shapes.specs.declared.Shape.{Shape}
-use Rattle.shapes.specs.Shape.{bytesOf, wordsOf, width, total, cellTotal, scaleTotal, limits}
-use Rattle.shapes.proofs.ShapeLaws.{limits-facts, cell-bytes-most, scale-words-most}
+use Rattle.shapes.specs.Shape.{bytesOf, wordsOf, width, positions, cellTotal, scaleTotal, limits}
 use Rattle.rows.specs.Row.{rowCells, rowScales}
 use Rattle.shapes.specs.Buffers.{Buffers, buffers}
-use Rattle.layers.specs.Layer.{written}
-use Rattle.layers.proofs.LayerLaws.{written-keeps}
-use Rattle.layers.proofs.PlaceLaws.{Written}
-use Rattle.layers.proofs.RunLaws.{cell-layer, scale-layer}
-use Rattle.cells.specs.Calls.{positions, appended}
-use Rattle.cells.specs.Fits.{InRoom, RowsIn}
-use Rattle.cells.proofs.LentLaws.{whole-positions}
+use Rattle.buffers.specs.Write.{written}
+use Rattle.buffers.specs.Calls.{appended, wholeRows}
+use Rattle.buffers.proofs.WriteLaws.{Written, written-size}
+use Rattle.buffers.proofs.RunLaws.{whole-rows, cell-layer, scale-layer}
 use Rattle.store.specs.Record.{mostOf}
 use Rattle.undo.specs.Survivors.{Rows, noRows, rowsOf}
 use Rattle.undo.proofs.RowLaws.{Holds, holds-none, holds-still, holds-added}
@@ -35,22 +31,17 @@ pub record HasRows (s : Shape) (l n : ℕ) (r : Rows) (b : Buffers) : Type 0 whe
   pub scales-held : Holds (wordsOf s) s l n (encoded (rowScales (s .format)) s r) (b .scales)
 
 -- no rows in zeros
-pub has-none : (s : Shape) (l : ℕ) → limits s ≡ true → HasRows s l 0 noRows (buffers (replicate (cellTotal s) 0) (replicate (scaleTotal s) 0))
-has-none s l h =
-    let f = limits-facts s h in
+pub has-none : (s : Shape) (l : ℕ) → HasRows s l 0 noRows (buffers (replicate (cellTotal s) 0) (replicate (scaleTotal s) 0))
+has-none s l =
     record {
       count = refl;
       whole = whole-none s;
       span = omega arith;
-      cells-held = holds-none (bytesOf s) s l _ h (cell-bytes-most s f);
-      scales-held = holds-none (wordsOf s) s l _ h (scale-words-most s f);
+      cells-held = holds-none (bytesOf s) s l _;
+      scales-held = holds-none (wordsOf s) s l _;
     }
 
--- a write keeps the size of a buffer, and in both buffers the rows of every other layer
-pub written-size : {b : ℕ} {s : Shape} {l p n : ℕ} {new : ℕ → ℕ → ℕ → List ℕ} {buf : List ℕ} → Written b s l p n new buf
-    → length (written b s l p n new buf) ≡ total b s
-written-size {b} {s} {l} {p} {n} {new} {buf} w = written-keeps b s p n (w .span) l new (w .layer) (w .sized) buf (w .whole)
-
+-- a write keeps the rows of every other layer, in both buffers
 pub has-still : {s : Shape} {l m n p i : ℕ} {r : Rows} (b : Buffers) {new new′ : ℕ → ℕ → ℕ → List ℕ} → l ≢ m → HasRows s l n r b
     → Written (bytesOf s) s m p i new (b .cells) → Written (wordsOf s) s m p i new′ (b .scales)
     → HasRows s l n r (buffers (written (bytesOf s) s m p i new (b .cells)) (written (wordsOf s) s m p i new′ (b .scales)))
@@ -74,31 +65,37 @@ rows-added enc {s = s} {n = n} {r = r} keys values x held w =
 abbrev pub Sizes : Shape → Buffers → Type 0
 Sizes s b = (length (b .cells) ≡ cellTotal s) × (length (b .scales) ≡ scaleTotal s)
 
+-- and the shape has the layer
+pub record InRoom (s : Shape) (l : ℕ) (b : Buffers) : Type 0 where
+  pub in-limits : limits s ≡ true
+  pub layer : l < s .layers
+  pub sizes : Sizes s b
+
 -- rows appended to layer m, which has `held` positions
-module _ {s : Shape} {m : ℕ} (b : Buffers) (k : InRoom s m (length (b .cells)) (length (b .scales))) (held : ℕ) (keys values : List ℕ)
-    (w : RowsIn s held (length keys) (length values)) where
+module _ {s : Shape} {m : ℕ} (b : Buffers) (k : InRoom s m b) (held : ℕ) (keys values : List ℕ)
+    (whole : wholeRows s (length keys) (length values) ≡ true) (room : held + positions s (length keys) ≤ s .capacity) where
   keys-whole : length keys ≡ positions s (length keys) * width s
-  keys-whole = whole-positions (width s) (length keys) (w .whole)
+  keys-whole = whole-rows s (length keys) (length values) whole .0
 
   values-whole : length values ≡ positions s (length keys) * width s
-  values-whole = w .alike ∙ keys-whole
+  values-whole = whole-rows s (length keys) (length values) whole .1
 
   new-cells : Written (bytesOf s) s m held (positions s (length keys)) (given (rowCells (s .format)) s keys values) (b .cells)
   new-cells =
       record {
         layer = k .layer;
-        span = w .span;
+        span = room;
         sized = cell-layer s (positions s (length keys)) (k .in-limits) keys values keys-whole values-whole;
-        whole = k .cell-size;
+        whole = k .sizes .0;
       }
 
   new-scales : Written (wordsOf s) s m held (positions s (length keys)) (given (rowScales (s .format)) s keys values) (b .scales)
   new-scales =
       record {
         layer = k .layer;
-        span = w .span;
+        span = room;
         sized = scale-layer s (positions s (length keys)) (k .in-limits) keys values keys-whole values-whole;
-        whole = k .scale-size;
+        whole = k .sizes .1;
       }
 
   pub append-sizes : Sizes s (appended s m held keys values b)
@@ -116,7 +113,7 @@ module _ {s : Shape} {m : ℕ} (b : Buffers) (k : InRoom s m (length (b .cells))
       record {
         count = length-append r (rowsOf s keys values) ∙ rw (x .count, tab-length);
         whole = whole-joined (x .whole) (whole-given s keys values keys-whole values-whole);
-        span = rw (lt-ltb m (s .layers) (k .layer)) (w .span);
+        span = rw (lt-ltb m (s .layers) (k .layer)) room;
         cells-held = rows-added (rowCells (s .format)) keys values x (x .cells-held) new-cells;
         scales-held = rows-added (rowScales (s .format)) keys values x (x .scales-held) new-scales;
       }

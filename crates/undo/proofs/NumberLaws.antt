@@ -16,8 +16,8 @@ use Rattle.lists.proofs.Tab.{tab-length, tab-getD, tab-of}
 use Rattle.lists.proofs.Joined.{joined-length, joined-part}
 use Rattle.shapes.specs.declared.Shape.{Shape}
 use Rattle.shapes.specs.Shape.{headSize, width}
-use Rattle.layers.specs.Calls.{headNumbers, sideOf}
-use Rattle.cells.specs.Calls.{positions}
+use Rattle.buffers.specs.Calls.{headNumbers, sideOf}
+use Rattle.shapes.specs.Shape.{positions}
 use Rattle.undo.specs.Survivors.{Position, Rows, position, noRows, rowsOf, positionAt, keysOf, valuesOf}
 
 -- a position has the numbers of all heads, and so has each of some rows

@@ -1,10 +1,10 @@
 -- Rows in one layer of a buffer that has b elements for each, and zeros after them: what a write to this layer or to another leaves of that.
 -- Each holds place by place, since a write is seen at its own places alone; cells have b = B, scale words b = S.
 use mathlib.Core.Path.{_≡_, sym, _∙_}
-use mathlib.Core.Bool.{true, cond}
+use mathlib.Core.Bool.{cond}
 use mathlib.Core.Logic.{_≢_, inl, inr}
 use mathlib.Core.List.{List}
-use Prim.Native.Nat.{ℕ, _+_, _-_, _≤_, _<_}
+use Prim.Native.Nat.{ℕ, _+_, _-_, _<_}
 use native.Mathlib.Omega.{arith}
 use native.Mathlib.Decide.{decLt}
 use lib.Dec.{ltb}
@@ -13,27 +13,20 @@ use borrow.Author.Tests.{lt-ltb, le-ltb}
 use Rattle.lists.specs.Chunks.{part}
 use Rattle.lists.proofs.Part.{part-replicate}
 use Rattle.shapes.specs.declared.Shape.{Shape}
-use Rattle.shapes.specs.Shape.{total, limits}
-use Rattle.layers.specs.Layer.{written, zeros, place}
-use Rattle.layers.proofs.PlaceLaws.{Written, Place, written-there, written-elsewhere}
-use Rattle.layers.proofs.SpanLaws.{PlaceIn, row-in}
+use Rattle.shapes.specs.Shape.{total}
+use Rattle.places.specs.Place.{place}
+use Rattle.places.proofs.PlaceLaws.{Place, row-in}
+use Rattle.buffers.specs.Write.{written, zeros}
+use Rattle.buffers.proofs.WriteLaws.{Written, written-there, written-elsewhere}
 
 -- layer l has n rows, and zeros after them
 pub record Holds (b : ℕ) (s : Shape) (l n : ℕ) (rows : ℕ → ℕ → ℕ → List ℕ) (buf : List ℕ) : Type 0 where
   pub row : (side h p : ℕ) → Place s l side h p → part (place b s l side h p) b buf ≡ cond (ltb p n) (rows side h p) (replicate b 0)
 
--- a place of the shape lies in a buffer of b elements a row
-in-buffer : (b : ℕ) (s : Shape) {l side h p : ℕ} → limits s ≡ true → b ≤ 1024 → Place s l side h p → PlaceIn s l side h p b
-in-buffer b s e small k =
-    record { in-limits = e; layer-in = k .layer-in; side-in = k .side-in; head-in = k .head-in; span = omega (arith, k .position-in); small = small }
-
 -- no rows in zeros
-pub holds-none : (b : ℕ) (s : Shape) (l : ℕ) (rows : ℕ → ℕ → ℕ → List ℕ) → limits s ≡ true → b ≤ 1024 → Holds b s l 0 rows (replicate (total b s) 0)
-holds-none b s l rows e small =
-    record {
-      row = λ side h p k.
-          rw (le-ltb p 0 (omega arith)) (part-replicate (place b s l side h p) b (total b s) 0 (row-in (in-buffer b s e small k) (k .position-in)));
-    }
+pub holds-none : (b : ℕ) (s : Shape) (l : ℕ) (rows : ℕ → ℕ → ℕ → List ℕ) → Holds b s l 0 rows (replicate (total b s) 0)
+holds-none b s l rows =
+    record { row = λ side h p k. rw (le-ltb p 0 (omega arith)) (part-replicate (place b s l side h p) b (total b s) 0 (row-in b k)) }
 
 module _ {b : ℕ} {s : Shape} {l n : ℕ} {rows : ℕ → ℕ → ℕ → List ℕ} {buf : List ℕ} (held : Holds b s l n rows buf) where
   -- after a write to another layer

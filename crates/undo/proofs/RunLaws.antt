@@ -6,16 +6,14 @@ use mathlib.Core.List.{List, [], _∷_, _++_}
 use Prim.Native.Nat.{ℕ, _+_}
 use lib.Dec.{eqb, leb}
 use lib.ListN.{length}
-use borrow.Author.Tests.{ltb-true, eqb-true, not-false}
+use borrow.Author.Tests.{ltb-true, leb-true, eqb-true, not-false}
 use Rattle.replies.specs.Outcome.{Refusal, _when_, lowest, outcome}
-use Rattle.replies.proofs.Refusals.{None, rising, lowest-none, none-lowest}
+use Rattle.replies.proofs.Refusals.{None, rising, lowest-none}
 use Rattle.shapes.specs.declared.Shape.{Shape}
-use Rattle.cells.specs.Calls.{appendRefusals, removeRefusals}
-use Rattle.cells.proofs.ReplyLaws.{append-fits}
 use Rattle.shapes.specs.Buffers.{Buffers}
 use Rattle.store.specs.declared.Record.{Record}
 use Rattle.store.specs.Record.{seqLen, lengthOf, withSeqLen}
-use Rattle.store.specs.Calls.{Store, store, storeRefusals, recordRefusals, appendOf, truncateOf, advanceOf}
+use Rattle.store.specs.Calls.{Store, store, storeRefusals, recordRefusals, appendRefusals, removeRefusals, appendOf, truncateOf, advanceOf}
 use Rattle.undo.specs.Sequence.{Call, append, truncate, advance, reads, does, run, counted, accepted}
 use Rattle.undo.specs.Survivors.{Rows, kept, keptFrom}
 use Rattle.undo.proofs.StoreLaws.{Renders}
@@ -46,9 +44,8 @@ module _ {r : Record} {b : Buffers} {of : ℕ → Rows} (x : Renders (r .shape) 
       let held = lengthOf r l in
       outcome-renders (storeRefusals r b ++ appendRefusals (r .shape) l held (length keys) (length values)) refl
       (λ z.
-      let w = append-fits (r .shape) (length (b .cells)) (length (b .scales)) l held (length keys) (length values)
-      (none-lowest _ (z .0, (z .1 .0, z .1 .1 .1))) in
-      append-done x l keys values (w .0 .layer) (w .1))
+      let n = z .1 .1 .1 in
+      append-done x l keys values (ltb-true l (r .shape .layers) (not-false _ (n .0))) (not-false _ (n .1 .0)) (leb-true _ _ (not-false _ (n .1 .1 .0))))
       x
 
   truncate-step : (l n : ℕ) → Steps (r .shape) (store r b) of (truncate l n)

@@ -8,10 +8,10 @@ use native.Mathlib.Decide.{decLt}
 use lib.ListN.{length}
 use borrow.Author.Tests.{le-ltb}
 use Rattle.shapes.specs.declared.Shape.{Shape}
+use Rattle.shapes.specs.Buffers.{buffers}
 use Rattle.shapes.specs.Shape.{bytesOf, wordsOf, total}
 use Rattle.rows.specs.Row.{rowCells, rowScales}
-use Rattle.layers.proofs.PlaceLaws.{places-same}
-use Rattle.cells.proofs.LentLaws.{buffers-alike}
+use Rattle.places.proofs.PlaceLaws.{places-same}
 use Rattle.store.specs.Record.{lengthOf}
 use Rattle.store.specs.Calls.{Store, store}
 use Rattle.store.proofs.LengthLaws.{same-record}
@@ -45,9 +45,6 @@ module _ {s : Shape} {t u : Store} {of of′ : ℕ → Rows} (x : Renders s t of
   pub same-rows : SameCache t u
   same-rows =
       let a = same-record 0 (x .lengths) (y .lengths) (x .shape-is ∙ sym (y .shape-is)) (λ l w. same-length l) in
-      let c =
-      buffers-alike
-      (same-buffer (rowCells (s .format)) (bytesOf s) _ _ (x .sizes .0) (y .sizes .0) (λ l. x .layer l .cells-held) (λ l. y .layer l .cells-held))
-      (same-buffer (rowScales (s .format)) (wordsOf s) _ _ (x .sizes .1) (y .sizes .1) (λ l. x .layer l .scales-held) (λ l. y .layer l .scales-held))
-      in
-      λ i. store (a i) (c i)
+      let c = same-buffer (rowCells (s .format)) (bytesOf s) _ _ (x .sizes .0) (y .sizes .0) (λ l. x .layer l .cells-held) (λ l. y .layer l .cells-held) in
+      let d = same-buffer (rowScales (s .format)) (wordsOf s) _ _ (x .sizes .1) (y .sizes .1) (λ l. x .layer l .scales-held) (λ l. y .layer l .scales-held) in
+      λ i. store (a i) (buffers (c i) (d i))

@@ -14,13 +14,11 @@ use Rattle.shapes.specs.declared.Shape.{Shape}
 use Rattle.shapes.specs.Shape.{width, cellTotal, scaleTotal, within, exact}
 use Rattle.shapes.proofs.ShapeLaws.{within-limits, width-in}
 use Rattle.shapes.specs.Buffers.{Buffers}
-use Rattle.cells.specs.Calls.{room, appendRefusals}
-use Rattle.cells.specs.Fits.{InRoom}
 use Rattle.store.specs.Record.{lengthOf}
-use Rattle.store.specs.Calls.{Store, storeRefusals, openOf, appendOf}
+use Rattle.store.specs.Calls.{Store, bufferRefusals, storeRefusals, appendRefusals, openOf, appendOf}
 use Rattle.store.proofs.LengthLaws.{HasLengths, new-has, new-length, lengths-good}
 use Rattle.undo.specs.Survivors.{Rows, noRows}
-use Rattle.undo.proofs.LayerLaws.{HasRows, Sizes, has-none}
+use Rattle.undo.proofs.LayerLaws.{HasRows, Sizes, InRoom, has-none}
 
 -- a store of shape s, with the rows of each layer and nothing else
 pub record Renders (s : Shape) (t : Store) (of : ℕ → Rows) : Type 0 where
@@ -34,14 +32,14 @@ pub record Renders (s : Shape) (t : Store) (of : ℕ → Rows) : Type 0 where
 pub opened-renders : (s : Shape) (b : Buffers) → openOf s b .reply ≡ 0 → Renders s (openOf s b .left) (λ l. noRows)
 unfolding openOf outcome
 opened-renders s b h =
-    let v : within s ≡ true = not-false (within s) (lowest-none 0 (room s b) refl h .0) in
+    let v : within s ≡ true = not-false (within s) (lowest-none 0 (bufferRefusals s b) refl h .0) in
     rw h
     (record {
       shape-is = refl;
       shape-in = v;
       lengths = new-has s;
       sizes = (length-replicate {A = ℕ} (cellTotal s) 0, length-replicate {A = ℕ} (scaleTotal s) 0);
-      layer = λ l. rw (new-length s l) (has-none s l (within-limits s v));
+      layer = λ l. rw (new-length s l) (has-none s l);
     })
 
 module _ {s : Shape} {t : Store} {of : ℕ → Rows} (x : Renders s t of) where
@@ -52,8 +50,8 @@ module _ {s : Shape} {t : Store} {of : ℕ → Rows} (x : Renders s t of) where
       let good = lengths-good (t .rec) (λ l. rw (x .shape-is) (x .layer l .span)) in
       (rw (x .shape-is, x .shape-in), (rw (x .shape-is, both-true (eq-eqb _ _ (x .sizes .0)) (eq-eqb _ _ (x .sizes .1))), (rw good, tt)))
 
-  pub in-room : {l : ℕ} → l < s .layers → InRoom s l (length (t .lent .cells)) (length (t .lent .scales))
-  in-room w = record { in-limits = within-limits s (x .shape-in); layer = w; cell-size = x .sizes .0; scale-size = x .sizes .1 }
+  pub in-room : {l : ℕ} → l < s .layers → InRoom s l (t .lent)
+  in-room w = record { in-limits = within-limits s (x .shape-in); layer = w; sizes = x .sizes }
 
   -- rows that fit are accepted
   pub append-accepted : (l : ℕ) (keys values : List ℕ) (n : ℕ) → l < s .layers → length keys ≡ n * width s → length values ≡ n * width s

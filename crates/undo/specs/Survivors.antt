@@ -7,7 +7,7 @@ use lib.ListN.{length, getD, take}
 use Rattle.lists.specs.Chunks.{tab, joined, part}
 use Rattle.shapes.specs.declared.Shape.{Shape}
 use Rattle.shapes.specs.Shape.{width}
-use Rattle.cells.specs.Calls.{positions}
+use Rattle.shapes.specs.Shape.{positions}
 use Rattle.undo.specs.Sequence.{Call, append, truncate, advance, reads}
 
 -- one position of a layer: the keys and the values of all its heads, as they were appended

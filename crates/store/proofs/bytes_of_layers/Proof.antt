@@ -23,49 +23,32 @@ loop-holds : tie.Need-loop-holds Inv-loop μ-loop
 unfolding turns
 loop-holds c = search needs
 
-cast-loop : tie.Need-cast-loop Inv-loop μ-loop
-cast-loop c = search needs
-
-mul-sum : tie.Need-mul-sum Inv-loop μ-loop
-mul-sum c = search needs
-
 element-copy-out-sum : tie.Need-element-copy-out-sum Inv-loop μ-loop
 element-copy-out-sum c = let b = sound-limits _ (sound-record (c .before .before .before .before .args .t1) (c .before .before .before .before .pre)) .layers-in in omega arith
 
-cast-sum : tie.Need-cast-sum Inv-loop μ-loop
-cast-sum c = search needs
+-- what a layer adds is no large number, and the layers are few
+small : (c : tie.After-sum Inv-loop μ-loop)
+    → let r = c .before .before .before .before .before .args .t1 in
+    (lengthOf r (c .before .before .loop .l) * positionBytes (r .shape) ≤ 2684354560) × (r .shape .layers ≤ 128)
+small c =
+    let r = c .before .before .before .before .before .args .t1 in
+    let h = sound-record r (c .before .before .before .before .before .pre) in
+    (layer-bytes-in r (c .before .before .loop .l) h (omega arith), sound-limits r h .layers-in .1)
 
 mul-sum-2 : tie.Need-mul-sum-2 Inv-loop μ-loop
-mul-sum-2 c =
-    let r = c .before .before .before .before .before .args .t1 in
-    let w = layer-bytes-in r (c .before .before .loop .l) (sound-record r (c .before .before .before .before .before .pre)) (omega arith) in
-    let b = sound-limits r (sound-record r (c .before .before .before .before .before .pre)) .layers-in in
-    rw (c .before .before .before .position-bytes .ensures) (record { fits = omega arith })
+mul-sum-2 c = rw (c .before .before .before .position-bytes .ensures) (record { fits = omega (arith, small c) })
 
 add-sum : tie.Need-add-sum Inv-loop μ-loop
-add-sum c =
-    let r = c .before .before .before .before .before .args .t1 in
-    let w = layer-bytes-in r (c .before .before .loop .l) (sound-record r (c .before .before .before .before .before .pre)) (omega arith) in
-    let b = sound-limits r (sound-record r (c .before .before .before .before .before .pre)) .layers-in in
-    rw (c .before .before .before .position-bytes .ensures) (record { fits = omega arith })
+add-sum c = rw (c .before .before .before .position-bytes .ensures) (record { fits = omega (arith, small c) })
 
 add-l : tie.Need-add-l Inv-loop μ-loop
-add-l c =
-    let r = c .before .before .before .before .before .args .t1 in
-    let w = layer-bytes-in r (c .before .before .loop .l) (sound-record r (c .before .before .before .before .before .pre)) (omega arith) in
-    let b = sound-limits r (sound-record r (c .before .before .before .before .before .pre)) .layers-in in
-    record { fits = omega arith }
-
-loop-less : tie.Need-loop-less Inv-loop μ-loop
-loop-less c = search needs
+add-l c = record { fits = omega (arith, small c) }
 
 loop-again : tie.Need-loop-again Inv-loop μ-loop
 loop-again c =
     let r = c .before .before .before .before .before .args .t1 in
-    let w = layer-bytes-in r (c .before .before .loop .l) (sound-record r (c .before .before .before .before .before .pre)) (omega arith) in
-    let b = sound-limits r (sound-record r (c .before .before .before .before .before .pre)) .layers-in in
     let e = c .before .before .before .position-bytes .ensures in
-    (omega arith, turns-next (c .before .before .loop .l) (λ i x. x + lengthOf r i * positionBytes (r .shape)) 0 (c .before .before .loop .inv .1) (rw e), rw e (omega arith))
+    (omega arith, turns-next (c .before .before .loop .l) (λ i x. x + lengthOf r i * positionBytes (r .shape)) 0 (c .before .before .loop .inv .1) (rw e), rw e (omega (arith, small c)))
 
 returns : tie.Need-returns Inv-loop μ-loop
 unfolding byteCount
@@ -81,13 +64,13 @@ bytes-of-layers-spec =
     μ-loop
     position-bytes-requires
     loop-holds
-    cast-loop
-    mul-sum
+    (λ c. search needs)
+    (λ c. search needs)
     element-copy-out-sum
-    cast-sum
+    (λ c. search needs)
     mul-sum-2
     add-sum
     add-l
-    loop-less
+    (λ c. search needs)
     loop-again
     returns)

@@ -1,52 +1,42 @@
--- The record is tested first, then the layer.
-use mathlib.Core.Path.{refl, sym}
-use borrow.Author.Tests.{lt-ltb, le-ltb}
-use Rattle.replies.specs.Outcome.{lowest, outcome}
-use Rattle.replies.proofs.Refusals.{still-refused, still-passed, lowest-none, refused-first}
-use Rattle.store.specs.Calls.{recordRefusals, cachedLenOf}
+-- The reply decides: refused, there is no count, and done, it is the layer's length.
+use mathlib.Core.Path.{_≡_, refl, _∙_}
+use mathlib.Core.List.{_++_}
+use Rattle.replies.specs.Outcome.{lowest}
+use Rattle.replies.specs.Reply.{replyNumber}
+use Rattle.replies.proofs.Tested.{first-lowest, call-done, call-refused}
+use Rattle.store.specs.Calls.{recordRefusals, removeRefusals, cachedLenOf}
 use borrow.Author.Needs.{needs}
 use Rattle.store.proofs.cached_len.Statement.{statement}
 use Rattle.store.proofs.cached_len.Tie as tie
 
-record-reply-requires : tie.Need-record-reply-requires
-record-reply-requires c κs = search needs
-
-number-requires : tie.Need-number-requires
-number-requires c κs = search needs
+-- the record is asked first, then the layer
+replied : (c : tie.After-first-of)
+    → let a = c .before .before .before .before .args in
+    replyNumber (c .first-of .result) ≡ lowest (recordRefusals (a .«record») ++ removeRefusals (a .«record» .shape) (a .layer))
+unfolding lowest
+replied c =
+    let a = c .before .before .before .before .args in
+    c .first-of .ensures
+    ∙ first-lowest (recordRefusals (a .«record»)) (removeRefusals (a .«record» .shape) (a .layer)) refl
+    (c .before .before .before .record-reply .ensures) (c .before .refuse .ensures)
 
 returns : tie.Need-returns
 unfolding cachedLenOf
-returns c =
-    rw (c .before .before .record-reply .ensures) (sym (refused-first _ _ _ _ (still-refused (c .before .number .ensures) (c .before .before .record-reply .ensures) (c .if1 .taken))))
+returns c = call-refused _ (replied (c .before .before)) (c .before .number .ensures) _ (c .if1 .taken)
 
 returns-2 : tie.Need-returns-2
-unfolding cachedLenOf lowest outcome
-returns-2 c =
-    let r = c .before .before .before .before .before .args .«record» in
-    let n = lowest-none 0 (recordRefusals r) refl (still-passed (c .before .before .before .number .ensures) (c .before .before .before .before .record-reply .ensures) (c .before .before .if1 .left)) in
-    rw (n .0, n .1 .0, le-ltb (c .before .before .before .before .before .args .layer) (r .shape .layers) (c .if2 .taken))
-
-length-of-requires : tie.Need-length-of-requires
-length-of-requires c κs = search needs
-
-cast-t8 : tie.Need-cast-t8
-cast-t8 c = search needs
-
-returns-3 : tie.Need-returns-3
-unfolding cachedLenOf lowest outcome
-returns-3 c =
-    let r = c .before .before .before .before .before .before .args .«record» in
-    let n = lowest-none 0 (recordRefusals r) refl (still-passed (c .before .before .before .before .number .ensures) (c .before .before .before .before .before .record-reply .ensures) (c .before .before .before .if1 .left)) in
-    rw (c .length-of .ensures, n .0, n .1 .0, lt-ltb (c .before .before .before .before .before .before .args .layer) (r .shape .layers) (c .before .if2 .left))
+unfolding cachedLenOf
+returns-2 c = call-done _ (replied (c .before .before .before)) (c .before .before .number .ensures) _ (c .before .if1 .left) (c .length-of .ensures)
 
 pub cached-len-spec : {M : Type 1} → statement M
 cached-len-spec =
     tie.close
     (tie.spec
-    record-reply-requires
-    number-requires
+    (λ c κs. search needs)
+    (λ c κs. search needs)
+    (λ c κs. search needs)
+    (λ c κs. search needs)
     returns
-    returns-2
-    length-of-requires
-    cast-t8
-    returns-3)
+    (λ c κs. search needs)
+    (λ c. search needs)
+    returns-2)

@@ -22,15 +22,6 @@ loop-holds : tie.Need-loop-holds Inv-loop μ-loop
 unfolding some turns
 loop-holds c = search needs
 
-most-of-requires : tie.Need-most-of-requires Inv-loop μ-loop
-most-of-requires c κs = search needs
-
-mul-if1 : tie.Need-mul-if1 Inv-loop μ-loop
-mul-if1 c = search needs
-
-element-copy-out-if1 : tie.Need-element-copy-out-if1 Inv-loop μ-loop
-element-copy-out-if1 c = search needs
-
 returns : tie.Need-returns Inv-loop μ-loop
 unfolding goodLengths
 returns c =
@@ -39,12 +30,6 @@ returns c =
     let b : l < 128 = search needs in
     let e : ltb (mostOf (r .shape) l) (lengthOf r l) ≡ true = lt-ltb _ _ (rw (c .before .before .most-of .ensures) at (c .if1 .taken)) in
     rw (some-found 128 l (λ i. ltb (mostOf (r .shape) i) (lengthOf r i)) b e)
-
-add-l : tie.Need-add-l Inv-loop μ-loop
-add-l c = search needs
-
-loop-less : tie.Need-loop-less Inv-loop μ-loop
-loop-less c = search needs
 
 loop-again : tie.Need-loop-again Inv-loop μ-loop
 loop-again c =
@@ -67,11 +52,11 @@ has-good-lengths-spec =
     Inv-loop
     μ-loop
     loop-holds
-    most-of-requires
-    mul-if1
-    element-copy-out-if1
+    (λ c κs. search needs)
+    (λ c. search needs)
+    (λ c. search needs)
     returns
-    add-l
-    loop-less
+    (λ c. search needs)
+    (λ c. search needs)
     loop-again
     returns-2)

@@ -6,19 +6,10 @@ use borrow.Author.Needs.{needs}
 use Rattle.store.proofs.length_of.Statement.{statement}
 use Rattle.store.proofs.length_of.Tie as tie
 
-mul-result : tie.Need-mul-result
-mul-result c = search needs
-
-element-copy-out-result : tie.Need-element-copy-out-result
-element-copy-out-result c = search needs
-
-returns : tie.Need-returns
-returns c = search needs
-
 returns-2 : tie.Need-returns-2
 returns-2 c =
     let n : length (c .before .args .t1 .lens) ≡ 128 = search needs in
     sym (List·getD-eq-default (c .before .args .t1 .lens) 0 (omega arith))
 
 pub length-of-spec : {M : Type 1} → statement M
-length-of-spec = tie.close (tie.spec mul-result element-copy-out-result returns returns-2)
+length-of-spec = tie.close (tie.spec (λ c. search needs) (λ c. search needs) (λ c. search needs) returns-2)

@@ -4,9 +4,6 @@ use borrow.Author.Tests.{lt-ltb, le-ltb}
 use Rattle.store.proofs.most_of.Statement.{statement}
 use Rattle.store.proofs.most_of.Tie as tie
 
-cast-if1 : tie.Need-cast-if1
-cast-if1 c = search needs
-
 returns : tie.Need-returns
 returns c = rw (lt-ltb (c .before .before .args .l) (c .before .before .args .shape .layers) (c .if1 .taken))
 
@@ -14,4 +11,4 @@ returns-2 : tie.Need-returns-2
 returns-2 c = rw (le-ltb (c .before .before .args .l) (c .before .before .args .shape .layers) (c .if1 .left))
 
 pub most-of-spec : {M : Type 1} → statement M
-most-of-spec = tie.close (tie.spec cast-if1 returns returns-2)
+most-of-spec = tie.close (tie.spec (λ c. search needs) returns returns-2)

@@ -1,62 +1,40 @@
--- The room is tested, then both buffers are zeroed.
-use mathlib.Core.Path.{sym, _∙_}
-use Rattle.replies.proofs.Refusals.{still-refused, still-passed, outcome-refused}
+-- The reply decides: refused, there is no store, and done, both buffers are zeros.
+use Rattle.replies.proofs.Refusals.{still-passed}
+use Rattle.replies.proofs.Tested.{call-done, call-refused}
 use Rattle.shapes.specs.Buffers.{buffers}
 use Rattle.store.specs.Calls.{openOf}
-use Rattle.store.proofs.CallLaws.{open-done}
+use Rattle.store.proofs.AcceptLaws.{zeros-left, store-alike}
 use borrow.Author.Needs.{needs}
 use Rattle.store.proofs.open.Statement.{statement}
 use Rattle.store.proofs.open.Tie as tie
 
-room-reply-requires : tie.Need-room-reply-requires
-room-reply-requires c κs = search needs
-
-number-requires : tie.Need-number-requires
-number-requires c κs = search needs
-
-not-open-requires : tie.Need-not-open-requires
-not-open-requires c κs = search needs
-
 returns : tie.Need-returns
 unfolding openOf
-returns c =
-    rw (c .not-open .ensures, c .before .before .before .room-reply .ensures)
-    (sym (outcome-refused _ _ _ (still-refused (c .before .before .number .ensures) (c .before .before .before .room-reply .ensures) (c .before .if1 .taken))))
-
-clear-all-requires : tie.Need-clear-all-requires
-clear-all-requires c κs = search needs
-
-new-record-requires : tie.Need-new-record-requires
-new-record-requires c κs = search needs
-
-same-length : tie.Need-same-length
-same-length c = search needs
-
-same-length-2 : tie.Need-same-length-2
-same-length-2 c = search needs
+returns c = rw (c .not-open .ensures) (call-refused _ (c .before .before .before .room-reply .ensures) (c .before .before .number .ensures) _ (c .before .if1 .taken))
 
 returns-2 : tie.Need-returns-2
+unfolding openOf
 returns-2 c =
-    let a = c .before .before .before .before .before .before .before .before .before .before .before .before .before .args in
-    let z = c .before .before .before .before .before .before .before .before .before .number .ensures in
-    let cleared = c .before .before .before .before .before .clear-all .ensures in
-    open-done (a .shape) (buffers (a .cells .now) (a .scales .now))
-    (still-passed z (c .before .before .before .before .before .before .before .before .before .before .room-reply .ensures) (c .before .before .before .before .before .before .before .before .if1 .left))
-    (sym z ∙ c .before .before .before .before .before .before .before .before .if1 .left)
-    (c .new-record .ensures)
-    (cleared .0)
-    (cleared .1)
+    let g = c .before .before .before .before in
+    let h = g .before .before .before in
+    let k = h .before .before in
+    let a = k .before .before .before .before .args in
+    let z = h .before .if1 .left in
+    call-done _ (k .before .room-reply .ensures) (k .number .ensures) _ z
+    (store-alike (h .new-record .ensures)
+    (zeros-left (a .shape) (buffers (a .cells .now) (a .scales .now)) (still-passed (k .number .ensures) (k .before .room-reply .ensures) z)
+    (g .clear-all .ensures .0) (g .clear-all .ensures .1)))
 
 pub open-spec : {M : Type 1} → statement M
 open-spec =
     tie.close
     (tie.spec
-    room-reply-requires
-    number-requires
-    not-open-requires
+    (λ c κs. search needs)
+    (λ c κs. search needs)
+    (λ c κs. search needs)
     returns
-    clear-all-requires
-    new-record-requires
-    same-length
-    same-length-2
+    (λ c κs. search needs)
+    (λ c κs. search needs)
+    (λ c. search needs)
+    (λ c. search needs)
     returns-2)

@@ -5,23 +5,11 @@ use borrow.Author.Needs.{needs}
 use Rattle.store.proofs.position_bytes.Statement.{statement}
 use Rattle.store.proofs.position_bytes.Tie as tie
 
-cell-bytes-requires : tie.Need-cell-bytes-requires
-cell-bytes-requires c κs = search needs
-
-scale-words-requires : tie.Need-scale-words-requires
-scale-words-requires c κs = search needs
-
 mul-row : tie.Need-mul-row
 mul-row c = let w = position-bytes-in (c .before .before .args .shape) (c .before .before .pre) in record { fits = omega arith }
 
 add-row : tie.Need-add-row
 add-row c = let w = position-bytes-in (c .before .before .args .shape) (c .before .before .pre) in record { fits = omega arith }
-
-cast-result : tie.Need-cast-result
-cast-result c = search needs
-
-mul-result : tie.Need-mul-result
-mul-result c = search needs
 
 mul-result-2 : tie.Need-mul-result-2
 mul-result-2 c =
@@ -35,11 +23,11 @@ pub position-bytes-spec : {M : Type 1} → statement M
 position-bytes-spec =
     tie.close
     (tie.spec
-    cell-bytes-requires
-    scale-words-requires
+    (λ c κs. search needs)
+    (λ c κs. search needs)
     mul-row
     add-row
-    cast-result
-    mul-result
+    (λ c. search needs)
+    (λ c. search needs)
     mul-result-2
     returns)

@@ -1,85 +1,53 @@
--- Past the store's own refusals the call goes as that of the rows does.
-use mathlib.Core.Path.{sym, _∙_}
-use Rattle.replies.proofs.Refusals.{still-refused, still-passed, refused-first}
+-- The reply decides: refused, all is as it was, and done, the layer's positions from t on are zeros.
+use mathlib.Core.Path.{_≡_, refl, _∙_}
+use mathlib.Core.List.{[], _++_}
+use lib.ListN.{length}
+use Rattle.replies.specs.Outcome.{lowest}
+use Rattle.replies.proofs.Refusals.{still-passed}
+use Rattle.replies.proofs.Tested.{call-done, call-refused}
 use Rattle.shapes.specs.Buffers.{buffers}
-use Rattle.store.specs.Calls.{truncateOf}
-use Rattle.store.proofs.CallLaws.{truncate-refused, truncate-done, truncate-in-record}
+use Rattle.store.specs.Calls.{lentRefusals, removeRefusals, truncateOf}
+use Rattle.store.proofs.AcceptLaws.{layer-there, in-record, remove-left, store-alike}
 use borrow.Author.Needs.{needs}
 use Rattle.store.proofs.truncate_to.Statement.{statement}
 use Rattle.store.proofs.truncate_to.Tie as tie
 
-store-reply-requires : tie.Need-store-reply-requires
-store-reply-requires c κs = search needs
-
-number-requires : tie.Need-number-requires
-number-requires c κs = search needs
-
 returns : tie.Need-returns
 unfolding truncateOf
-returns c =
-    rw (c .before .before .store-reply .ensures) (sym (refused-first _ _ _ _ (still-refused (c .before .number .ensures) (c .before .before .store-reply .ensures) (c .if1 .taken))))
+returns c = call-refused _ (c .before .before .truncate-reply .ensures) (c .before .number .ensures) _ (c .if1 .taken)
 
-length-of-requires : tie.Need-length-of-requires
-length-of-requires c κs = search needs
-
-remove-rows-requires : tie.Need-remove-rows-requires
-remove-rows-requires c κs = search needs
-
-number-requires-2 : tie.Need-number-requires-2
-number-requires-2 c κs = search needs
-
-same-length : tie.Need-same-length
-same-length c = search needs
-
-same-length-2 : tie.Need-same-length-2
-same-length-2 c = search needs
-
-returns-2 : tie.Need-returns-2
-returns-2 c =
-    let a = c .before .before .before .before .before .before .before .before .before .before .before .before .before .before .before .args in
-    let b = buffers (a .cells .now) (a .scales .now) in
-    let good = still-passed (c .before .before .before .before .before .before .before .before .before .before .before .number .ensures) (c .before .before .before .before .before .before .before .before .before .before .before .before .store-reply .ensures) (c .before .before .before .before .before .before .before .before .before .before .if1 .left) in
-    truncate-refused (a .«record») b good (a .layer) (a .t) (c .before .before .before .before .before .before .before .before .before .length-of .ensures) (c .before .before .before .before .before .before .remove-rows .ensures) (λ z. c .if2 .taken (c .before .number2 .ensures ∙ z))
-
-smaller-requires : tie.Need-smaller-requires
-smaller-requires c κs = search needs
+-- past the refusals
+accepted : (c : tie.Else1)
+    → let a = c .before .before .before .before .before .args in
+    lowest (lentRefusals (a .«record») (length (a .cells .now)) (length (a .scales .now)) ++ removeRefusals (a .«record» .shape) (a .layer)) ≡ 0
+accepted c = still-passed (c .before .number .ensures) (c .before .before .truncate-reply .ensures) (c .if1 .left)
 
 with-length-requires : tie.Need-with-length-requires
-with-length-requires c κs =
-    let a = c .before .before .before .before .before .before .before .before .before .before .before .before .before .before .before .before .args in
-    let b = buffers (a .cells .now) (a .scales .now) in
-    let good = still-passed (c .before .before .before .before .before .before .before .before .before .before .before .before .number .ensures) (c .before .before .before .before .before .before .before .before .before .before .before .before .before .store-reply .ensures) (c .before .before .before .before .before .before .before .before .before .before .before .if1 .left) in
-    truncate-in-record (a .«record») b good (a .layer) (a .t) (c .before .before .before .before .before .before .before .before .before .before .length-of .ensures) (c .before .before .before .before .before .before .before .remove-rows .ensures) (sym (c .before .before .number2 .ensures) ∙ c .before .if2 .left)
+with-length-requires c κs = in-record (layer-there _ _ _ _ [] refl (accepted (c .before .before)))
 
-same-length-3 : tie.Need-same-length-3
-same-length-3 c = search needs
-
-same-length-4 : tie.Need-same-length-4
-same-length-4 c = search needs
-
-returns-3 : tie.Need-returns-3
-returns-3 c =
-    let a = c .before .before .before .before .before .before .before .before .before .before .before .before .before .before .before .before .before .args in
-    let b = buffers (a .cells .now) (a .scales .now) in
-    let good = still-passed (c .before .before .before .before .before .before .before .before .before .before .before .before .before .number .ensures) (c .before .before .before .before .before .before .before .before .before .before .before .before .before .before .store-reply .ensures) (c .before .before .before .before .before .before .before .before .before .before .before .before .if1 .left) in
-    rw (c .with-length .ensures, c .before .smaller .ensures)
-    (truncate-done (a .«record») b good (a .layer) (a .t) (c .before .before .before .before .before .before .before .before .before .before .before .length-of .ensures) (c .before .before .before .before .before .before .before .before .remove-rows .ensures) (sym (c .before .before .before .number2 .ensures) ∙ c .before .before .if2 .left))
+returns-2 : tie.Need-returns-2
+unfolding truncateOf
+returns-2 c =
+    let g = c .before .before .before .before in
+    let h = g .before .before .before in
+    let k = h .before .before .before in
+    let a = k .before .before .before .before .before .args in
+    let e = h .before .before .length-of .ensures in
+    call-done _ (k .before .before .truncate-reply .ensures) (k .before .number .ensures) _ (k .if1 .left)
+    (store-alike (h .with-length .ensures ∙ rw (h .before .smaller .ensures, e))
+    (remove-left (a .«record») (buffers (a .cells .now) (a .scales .now)) (a .layer) (a .t) (accepted k) e (g .remove-rows .ensures)))
 
 pub truncate-to-spec : {M : Type 1} → statement M
 truncate-to-spec =
     tie.close
     (tie.spec
-    store-reply-requires
-    number-requires
+    (λ c κs. search needs)
+    (λ c κs. search needs)
     returns
-    length-of-requires
-    remove-rows-requires
-    number-requires-2
-    same-length
-    same-length-2
-    returns-2
-    smaller-requires
+    (λ c κs. search needs)
+    (λ c κs. search needs)
     with-length-requires
-    same-length-3
-    same-length-4
-    returns-3)
+    (λ c κs. search needs)
+    (λ c. search needs)
+    (λ c. search needs)
+    returns-2)

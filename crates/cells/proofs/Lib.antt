@@ -1,3 +1,0 @@
-pub mod LentLaws
-pub mod Nothing
-pub mod ReplyLaws

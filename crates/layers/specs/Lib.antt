@@ -1,3 +1,0 @@
-pub mod Calls
-pub mod Fits
-pub mod Layer
