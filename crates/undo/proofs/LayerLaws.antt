@@ -16,8 +16,7 @@ use Rattle.rows.specs.Row.{rowCells, rowScales}
 use Rattle.shapes.specs.Buffers.{Buffers, buffers}
 use Rattle.buffers.specs.Write.{written}
 use Rattle.buffers.specs.Calls.{appended}
-use Rattle.buffers.proofs.FitLaws.{whole-rows}
-use Rattle.buffers.proofs.RunLaws.{cell-layer, scale-layer}
+use Rattle.buffers.proofs.RunLaws.{whole-rows, cell-layer, scale-layer}
 use Rattle.buffers.proofs.WriteLaws.{Written, written-size}
 use Rattle.store.specs.Record.{mostOf}
 use Rattle.undo.specs.Survivors.{Rows, rows, noRows, joinedRows}
