@@ -1,9 +1,8 @@
 -- Formats that have scores and sums: the lengths of a row in each, and that there is no other.
 -- Each holds by the lines of the table.
 use mathlib.Core.Path.{_≡_, refl}
-use mathlib.Core.Bool.{true, false}
+use mathlib.Core.Bool.{true}
 use Prim.Native.Nat.{ℕ, zero, suc, _-_, _≤_}
-use native.Mathlib.Omega.{arith}
 use lib.ListN.{length, List·getD-eq-default}
 use Rattle.rows.proofs.FitLaws.{fits-facts, f32-fits, int4-fits}
 use Rattle.attention.specs.Order.{scorings, scoringOf, noScoring, hasScores}
@@ -21,13 +20,13 @@ pub no-scoring : (format : ℕ) → length scorings ≤ format → scoringOf for
 no-scoring format h = List·getD-eq-default scorings noScoring h
 
 -- a format that has scores is one of these two
-unscored : (format : ℕ) → (format ≡ 0 → ⊥) → (format ≡ 3 → ⊥) → hasScores format ≡ false
+pub scored-int4 : (format : ℕ) → hasScores format ≡ true → (format ≡ 0 → ⊥) → format ≡ 3
 unfolding hasScores scorings
-unscored zero a b = absurd (a refl)
-unscored (suc zero) a b = refl
-unscored (suc (suc zero)) a b = refl
-unscored (suc (suc (suc zero))) a b = absurd (b refl)
-unscored (suc (suc (suc (suc f)))) a b = refl
+scored-int4 zero h a = absurd (a refl)
+scored-int4 (suc zero) h a = cc
+scored-int4 (suc (suc zero)) h a = cc
+scored-int4 (suc (suc (suc zero))) h a = refl
+scored-int4 (suc (suc (suc (suc f)))) h a = cc
 
 pub scored-other : (format : ℕ) → hasScores format ≡ true → (format ≡ 0 → ⊥) → (format ≡ 3 → ⊥) → ⊥
-scored-other format h a b = let e = unscored format a b in let z : _≡_ {A = ℕ} 0 1 = cc in omega (arith, z)
+scored-other format h a b = b (scored-int4 format h a)

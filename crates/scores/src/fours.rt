@@ -44,23 +44,16 @@ pub(crate) fn score_four(
     let r1 = cells_of(cells, c, 1, 1);
     let r2 = cells_of(cells, c, 2, 1);
     let r3 = cells_of(cells, c, 3, 1);
-    match format {
-        0 => four_f32(query, scale, r0, r1, r2, r3),
-        3 => {
-            let w = scales.len() / 4;
-            let w0 = scales_of(scales, w, 0, 1);
-            let w1 = scales_of(scales, w, 1, 1);
-            let w2 = scales_of(scales, w, 2, 1);
-            let w3 = scales_of(scales, w, 3, 1);
-            four_int4(query, scale, r0, r1, r2, r3, w0, w1, w2, w3)
-        }
-        _ => Four {
-            s0: 0.0,
-            s1: 0.0,
-            s2: 0.0,
-            s3: 0.0,
-        },
+    // One test of two ways, which the back end takes out of the loop over the fours; past it the format is INT4.
+    if format == 0 {
+        return four_f32(query, scale, r0, r1, r2, r3);
     }
+    let w = scales.len() / 4;
+    let w0 = scales_of(scales, w, 0, 1);
+    let w1 = scales_of(scales, w, 1, 1);
+    let w2 = scales_of(scales, w, 2, 1);
+    let w3 = scales_of(scales, w, 3, 1);
+    four_int4(query, scale, r0, r1, r2, r3, w0, w1, w2, w3)
 }
 
 // Stores the words of four scores.

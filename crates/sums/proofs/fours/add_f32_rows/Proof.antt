@@ -74,16 +74,15 @@ cells-of-requires-2 c κs = inside (c .before .before .before) (c .before .befor
 add-four-requires : tie.Need-add-four-requires Inv-loop μ-loop
 add-four-requires c κs =
     let k = c .before .before .before .before .before in
-    let s = start k in
-    let a = s .args in
+    let a = start k .args in
     let p = k .loop .p in
     let i = k .loop .inv in
-    let count = f32-count (a .weights .now) (a .cells .now) (a .scales .now) (length (a .out .now)) (s .pre) in
+    let count = f32-count (a .weights .now) (a .cells .now) (a .scales .now) (length (a .out .now)) (start k .pre) in
     let here = c .before .before .cells-of .ensures in
     let behind = c .before .cells-of2 .ensures in (
       (
         c .before .before .before .add-four-arg .given .2 ∙ add-sub-cancel-left _ _,
-        rw (i .2) (f32-some (a .weights .now) (a .cells .now) (a .scales .now) (length (a .out .now)) (s .pre) p 4 (omega arith) here),
+        rw (i .2) (f32-some (a .weights .now) (a .cells .now) (a .scales .now) (length (a .out .now)) (start k .pre) p 4 (omega arith) here),
         count (p + 4) 4 _ (omega arith) behind ∙ sym (count p 4 _ (omega arith) here),
       ),
       λ z. rw (i .2, here) (i .3 z),
@@ -98,16 +97,13 @@ loop-less c = omega (arith, c .before .before .before .before .before .before .b
 loop-again : tie.Need-loop-again Inv-loop μ-loop
 loop-again c =
     let k = c .before .before .before .before .before .before .before .before in
-    let s = start k in
-    let a = s .args in
-    let p = k .loop .p in
+    let a = start k .args in
     let i = k .loop .inv in
-    let u : part p (p + 4 - p) (a .weights .now) ≡ part p 4 (a .weights .now) = rw add-sub-cancel-left in
     let y = c .before .before .add-four in
     let test = c .before .before .before .before .before .before .before .loop-test .taken in (
       omega arith,
-      f32-after (a .weights .now) (a .cells .now) (a .scales .now) (length (a .out .now)) (s .pre) p 4 (a .out .now) (omega arith) (i .2) u
-          (c .before .before .before .before .before .cells-of .ensures) (i .1) (y .ensures .0),
+      f32-after (a .weights .now) (a .cells .now) (a .scales .now) (length (a .out .now)) (start k .pre) (k .loop .p) 4 (a .out .now)
+          {u = part (k .loop .p) (k .loop .p + 4 - k .loop .p) (a .weights .now)} (omega arith) (i .2) (rw add-sub-cancel-left) (c .before .before .before .before .before .cells-of .ensures) (i .1) (y .ensures .0),
       y .kept .1 .1 .1 .1 .1 .0 ∙ i .2,
       λ z. rw (i .2, c .before .before .before .before .cells-of2 .ensures) at (y .ensures .1 z),
     )
@@ -133,10 +129,9 @@ cells-of-requires-3 c κs = inside (c .before .before) (c .before .before .loop 
 add-rest-requires : tie.Need-add-rest-requires Inv-loop μ-loop
 add-rest-requires c κs =
     let k = c .before .before .before .before in
-    let s = start k in
-    let a = s .args in
+    let a = start k .args in
     rw (c .before .before .add-rest-arg .given .2, k .loop .inv .2)
-    (f32-some (a .weights .now) (a .cells .now) (a .scales .now) (length (a .out .now)) (s .pre) (k .loop .p) _ (omega arith) (c .before .cells-of3 .ensures))
+    (f32-some (a .weights .now) (a .cells .now) (a .scales .now) (length (a .out .now)) (start k .pre) (k .loop .p) _ (omega arith) (c .before .cells-of3 .ensures))
 
 same-length : tie.Need-same-length Inv-loop μ-loop
 same-length c = search needs
@@ -144,13 +139,12 @@ same-length c = search needs
 returns : tie.Need-returns Inv-loop μ-loop
 returns c =
     let k = c .before .before .before .before .before .before .before in
-    let s = start k in
-    let a = s .args in
+    let a = start k .args in
     let p = k .loop .p in
     let m = length (a .weights .now) in
     let e : p + (m - p) ≡ m = omega arith in
     rw e at
-    (f32-after (a .weights .now) (a .cells .now) (a .scales .now) (length (a .out .now)) (s .pre) p (m - p) (a .out .now) (omega arith) (k .loop .inv .2) refl
+    (f32-after (a .weights .now) (a .cells .now) (a .scales .now) (length (a .out .now)) (start k .pre) p (m - p) (a .out .now) (omega arith) (k .loop .inv .2) refl
     (c .before .before .before .before .cells-of3 .ensures) (k .loop .inv .1) (c .before .before .add-rest .ensures))
 
 pub add-f32-rows-spec : {M : Type 1} → statement M
