@@ -2,12 +2,12 @@
 use buffers::append_rows;
 use buffers::clear_all;
 use buffers::remove_rows;
+use decode::get_row;
 use places::span_of;
 use replies::Reply;
 use replies::first_of;
 use replies::number;
 use replies::refuse;
-use decode::get_row;
 use shapes::Shape;
 use shapes::cell_bytes;
 use shapes::is_within;
