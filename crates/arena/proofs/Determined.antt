@@ -7,12 +7,12 @@ use Rattle.store.specs.Calls.{Store}
 use Rattle.store.proofs.Determined.{OneStore, one-store}
 use Rattle.arena.specs.Calls.{openIn, appendIn, truncateIn}
 
-module _ (held : Store) where
-  pub open-determined : (s : Shape) → OneStore (openIn s held)
-  open-determined s = one-store (openIn s held)
+module _ (cache : Store) where
+  pub open-determined : (s : Shape) → OneStore (openIn s cache)
+  open-determined s = one-store (openIn s cache)
 
-  pub append-determined : (l : ℕ) (keys values : List ℕ) → OneStore (appendIn l keys values held)
-  append-determined l keys values = one-store (appendIn l keys values held)
+  pub append-determined : (l : ℕ) (keys values : List ℕ) → OneStore (appendIn l keys values cache)
+  append-determined l keys values = one-store (appendIn l keys values cache)
 
-  pub truncate-determined : (l t : ℕ) → OneStore (truncateIn l t held)
-  truncate-determined l t = one-store (truncateIn l t held)
+  pub truncate-determined : (l t : ℕ) → OneStore (truncateIn l t cache)
+  truncate-determined l t = one-store (truncateIn l t cache)

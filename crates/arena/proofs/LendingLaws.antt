@@ -41,17 +41,17 @@ module _ (s : Shape) (b : Buffers) {n : Need} {c w : ℕ} (need : n ≡ needOf s
   lent-scales = cut (needOf s .scales) (b .scales) (rw need at f)
 
   pub given-back : (call : Buffers → Outcome Store) {a : ℕ} {r : Record} {y z : List ℕ}
-      → record { reply = a; left = store r (buffers y z) } ≡ call (buffers (take (c - 0) (b .cells)) (take (w - 0) (b .scales)))
-      → record { reply = a; left = store r (buffers (y ++ drop (c - 0) (b .cells)) (z ++ drop (w - 0) (b .scales))) } ≡ inRoom s b call
+      → record { reply = a; result = store r (buffers y z) } ≡ call (buffers (take (c - 0) (b .cells)) (take (w - 0) (b .scales)))
+      → record { reply = a; result = store r (buffers (y ++ drop (c - 0) (b .cells)) (z ++ drop (w - 0) (b .scales))) } ≡ inRoom s b call
   given-back call h =
       rw (lent-cells .1, lent-scales .1)
-      (ap (λ (o : Outcome Store). record { reply = o .reply; left = store (o .left .rec) (givenBack s (o .left .lent) b) }) (rw (lent-cells .0, lent-scales .0) at h))
+      (ap (λ (o : Outcome Store). record { reply = o .reply; result = store (o .result .rec) (givenBack s (o .result .memory) b) }) (rw (lent-cells .0, lent-scales .0) at h))
 
   -- open, done and refused
   module _ (r₀ : Record) {a : ℕ} {r : Record} {y z : List ℕ}
-      (h : record { reply = a; left = store r (buffers y z) } ≡ openOf s (buffers (take (c - 0) (b .cells)) (take (w - 0) (b .scales)))) where
+      (h : record { reply = a; result = store r (buffers y z) } ≡ openOf s (buffers (take (c - 0) (b .cells)) (take (w - 0) (b .scales)))) where
     pub open-done : a ≡ 0
-        → record { reply = a; left = store r (buffers (y ++ drop (c - 0) (b .cells)) (z ++ drop (w - 0) (b .scales))) } ≡ openIn s (store r₀ b)
+        → record { reply = a; result = store r (buffers (y ++ drop (c - 0) (b .cells)) (z ++ drop (w - 0) (b .scales))) } ≡ openIn s (store r₀ b)
     unfolding openIn
     open-done q =
         let e = given-back (openOf s) h in
@@ -64,10 +64,10 @@ module _ (s : Shape) (b : Buffers) {n : Need} {c w : ℕ} (need : n ≡ needOf s
     same-parts q =
         let n = given-number _ _ _ h in
         let k = h ∙ outcome-refused _ _ _ (λ x. q (n ∙ x)) in
-        (ap (λ (o : Outcome Store). o .left .lent .cells) k, ap (λ (o : Outcome Store). o .left .lent .scales) k)
+        (ap (λ (o : Outcome Store). o .result .memory .cells) k, ap (λ (o : Outcome Store). o .result .memory .scales) k)
 
     pub open-refused : (a ≡ 0 → ⊥)
-        → record { reply = a; left = store r₀ (buffers (y ++ drop (c - 0) (b .cells)) (z ++ drop (w - 0) (b .scales))) } ≡ openIn s (store r₀ b)
+        → record { reply = a; result = store r₀ (buffers (y ++ drop (c - 0) (b .cells)) (z ++ drop (w - 0) (b .scales))) } ≡ openIn s (store r₀ b)
     unfolding openIn
     open-refused q =
         let m = ap (λ (o : Outcome Store). o .reply) (given-back (openOf s) h) in

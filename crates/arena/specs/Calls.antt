@@ -23,16 +23,16 @@ givenBack s part room =
 abbrev pub inRoom : Shape → Buffers → (Buffers → Outcome Store) → Outcome Store
 inRoom s room call =
     let o = call (lentTo s room) in
-    record { reply = o .reply; left = store (o .left .rec) (givenBack s (o .left .lent) room) }
+    record { reply = o .reply; result = store (o .result .rec) (givenBack s (o .result .memory) room) }
 
 -- open: refused, it keeps the store that was there
 unfoldable pub openIn : Shape → Store → Outcome Store
-openIn s held =
-    let o = inRoom s (held .lent) (openOf s) in
-    record { reply = o .reply; left = cond (eqb (o .reply) 0) (o .left) held }
+openIn s cache =
+    let o = inRoom s (cache .memory) (openOf s) in
+    record { reply = o .reply; result = cond (eqb (o .reply) 0) (o .result) cache }
 
 unfoldable pub appendIn : ℕ → List ℕ → List ℕ → Store → Outcome Store
-appendIn l keys values held = inRoom (held .rec .shape) (held .lent) (λ b. appendOf (held .rec) b l keys values)
+appendIn l keys values cache = inRoom (cache .rec .shape) (cache .memory) (λ b. appendOf (cache .rec) b l keys values)
 
 unfoldable pub truncateIn : ℕ → ℕ → Store → Outcome Store
-truncateIn l t held = inRoom (held .rec .shape) (held .lent) (λ b. truncateOf (held .rec) b l t)
+truncateIn l t cache = inRoom (cache .rec .shape) (cache .memory) (λ b. truncateOf (cache .rec) b l t)

@@ -10,14 +10,14 @@ use store::truncate_to;
 ghost use mathlib.Core.Path.{_≡_};
 ghost use Prim.Native.Nat.{_≤_, min};
 ghost use Rattle.shapes.specs.Buffers.{buffers};
-ghost use Rattle.store.specs.Calls.{store, left};
+ghost use Rattle.store.specs.Calls.{store, changedStore};
 ghost use Rattle.arena.specs.Calls.{openIn, appendIn, truncateIn};
 
 // Makes an empty store in what the shape is lent; refused, the store that was there stays.
 pub fn open_in(record: Record, cells: &mut [u8], scales: &mut [u32], shape: Shape) -> Changed
     ensures { λ r.
         ⌜
-        left r (now (cells .exit)) (now (scales .exit))
+        changedStore r (now (cells .exit)) (now (scales .exit))
         ≡ openIn shape (store «record» (buffers (now (cells .entry)) (now (scales .entry))))
         ⌝ }
 {
@@ -46,7 +46,7 @@ pub fn append_in(
 ) -> Changed
     ensures { λ r.
         ⌜
-        left r (now (cells .exit)) (now (scales .exit))
+        changedStore r (now (cells .exit)) (now (scales .exit))
         ≡ appendIn layer (now (keys .entry)) (now (values .entry)) (store «record» (buffers (now (cells .entry)) (now (scales .entry))))
         ⌝ }
 {
@@ -73,7 +73,7 @@ pub fn truncate_in(
 ) -> Changed
     ensures { λ r.
         ⌜
-        left r (now (cells .exit)) (now (scales .exit))
+        changedStore r (now (cells .exit)) (now (scales .exit))
         ≡ truncateIn layer t (store «record» (buffers (now (cells .entry)) (now (scales .entry))))
         ⌝ }
 {

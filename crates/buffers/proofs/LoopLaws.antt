@@ -93,18 +93,18 @@ module _ {s : Shape} {l side p n cells scales : ℕ} (k : InLayer s l side p n c
 -- a loop over the heads of a side: out is buf with the rows of the first h of them
 pub record Heads (b : ℕ) (s : Shape) (l side p n : ℕ) (rows : ℕ → ℕ → List ℕ) (buf : List ℕ) (h : ℕ) (out : List ℕ) : Type 0 where
   pub passed : h ≤ s .heads
-  pub left : out ≡ turns h (λ i. put b s l side i p n (rows i)) buf
+  pub result : out ≡ turns h (λ i. put b s l side i p n (rows i)) buf
   pub kept : length out ≡ length buf
 
 module _ {b : ℕ} {s : Shape} {l side p n : ℕ} {rows : ℕ → ℕ → List ℕ} {buf : List ℕ} where
   pub no-heads : Heads b s l side p n rows buf 0 buf
   unfolding turns
-  no-heads = record { passed = omega arith; left = refl; kept = refl }
+  no-heads = record { passed = omega arith; result = refl; kept = refl }
 
   module _ {h : ℕ} {out : List ℕ} (o : Heads b s l side p n rows buf h out) where
     pub heads-done : s .heads ≤ h → out ≡ writtenSide b s l side p n rows buf
     unfolding writtenSide
-    heads-done w = let e : h ≡ s .heads = omega (arith, o .passed) in o .left ∙ rw e
+    heads-done w = let e : h ≡ s .heads = omega (arith, o .passed) in o .result ∙ rw e
 
     -- the turn: the positions of head h came back as y
     pub head-turn : {from to : ℕ} {y : List ℕ} → SideRows b s n rows → h < s .heads → Ends b s l side h p n (length out) from to
@@ -117,7 +117,7 @@ module _ {b : ℕ} {s : Shape} {l side p n : ℕ} {rows : ℕ → ℕ → List �
         let same = at-length from (n * b) f out (λ x u. joined-length b n (rows h) (sized h w)) (omega (arith, e .count, e .inside)) in
         record {
           passed = omega arith;
-          left = turns-next h (λ i. put b s l side i p n (rows i)) buf (o .left) (came ∙ rw (e .start));
+          result = turns-next h (λ i. put b s l side i p n (rows i)) buf (o .result) (came ∙ rw (e .start));
           kept = rw came (same ∙ o .kept);
         }
 

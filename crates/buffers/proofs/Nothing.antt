@@ -13,13 +13,13 @@ use Rattle.buffers.proofs.WriteLaws.{written-none}
 pub no-positions : (s : Shape) → positions s 0 ≡ 0
 no-positions s = zero-div (width s)
 
-module _ (s : Shape) (l held : ℕ) (b : Buffers) where
+module _ (s : Shape) (l len : ℕ) (b : Buffers) where
   -- a removal at or past the length
-  pub removed-none : (t : ℕ) → held ≤ t → removed s l held t b ≡ b
+  pub removed-none : (t : ℕ) → len ≤ t → removed s l len t b ≡ b
   unfolding removed
-  removed-none t h = let z : held - t ≡ 0 = omega arith in simp (z, written-none)
+  removed-none t h = let z : len - t ≡ 0 = omega arith in simp (z, written-none)
 
   -- an append of no keys
-  pub appended-none : (values : List ℕ) → appended s l held [] values b ≡ b
+  pub appended-none : (values : List ℕ) → appended s l len [] values b ≡ b
   unfolding appended
   appended-none values = simp (no-positions, written-none)

@@ -28,20 +28,20 @@ cellRow s numbers h i = rowCells (s .format) (headNumbers s numbers h i)
 abbrev pub scaleRow : Shape → List ℕ → ℕ → ℕ → List ℕ
 scaleRow s numbers h i = rowScales (s .format) (headNumbers s numbers h i)
 
--- keys and values appended to layer l, which has `held` positions
+-- keys and values appended to layer l, which has `len` positions
 unfoldable pub appended : Shape → ℕ → ℕ → List ℕ → List ℕ → Buffers → Buffers
-appended s l held keys values b =
+appended s l len keys values b =
     let n = positions s (length keys) in
     buffers
-    (written (bytesOf s) s l held n (λ side. cellRow s (sideOf keys values side)) (b .cells))
-    (written (wordsOf s) s l held n (λ side. scaleRow s (sideOf keys values side)) (b .scales))
+    (written (bytesOf s) s l len n (λ side. cellRow s (sideOf keys values side)) (b .cells))
+    (written (wordsOf s) s l len n (λ side. scaleRow s (sideOf keys values side)) (b .scales))
 
--- positions t to held - 1 of layer l removed: none where t is not below held
+-- positions t to len - 1 of layer l removed: none where t is not below len
 unfoldable pub removed : Shape → ℕ → ℕ → ℕ → Buffers → Buffers
-removed s l held t b =
+removed s l len t b =
     buffers
-    (written (bytesOf s) s l t (held - t) (zeros (bytesOf s)) (b .cells))
-    (written (wordsOf s) s l t (held - t) (zeros (wordsOf s)) (b .scales))
+    (written (bytesOf s) s l t (len - t) (zeros (bytesOf s)) (b .cells))
+    (written (wordsOf s) s l t (len - t) (zeros (wordsOf s)) (b .scales))
 
 -- whether both buffers are a store's of shape s that has layer l, and positions up to `most` are in it
 unfoldable pub layerFits : Shape → ℕ → ℕ → Buffers → Bool
@@ -53,10 +53,10 @@ wholeRows s keys values = eqb (keys % width s) 0 && eqb values keys
 
 -- each call
 unfoldable pub appendRowsOf : Shape → ℕ → ℕ → List ℕ → List ℕ → Buffers → Tried Buffers
-appendRowsOf s l held keys values b =
+appendRowsOf s l len keys values b =
     tried
-    (layerFits s l (held + positions s (length keys)) b && wholeRows s (length keys) (length values))
-    (appended s l held keys values b) b
+    (layerFits s l (len + positions s (length keys)) b && wholeRows s (length keys) (length values))
+    (appended s l len keys values b) b
 
 unfoldable pub removeRowsOf : Shape → ℕ → ℕ → ℕ → Buffers → Tried Buffers
-removeRowsOf s l held t b = tried (layerFits s l held b) (removed s l held t b) b
+removeRowsOf s l len t b = tried (layerFits s l len b) (removed s l len t b) b

@@ -28,11 +28,11 @@ pub fn clear_all(cells: &mut [u8], scales: &mut [u32])
     zero_words(scales);
 }
 
-// Appends keys and values to a layer that has `held` positions, where they fit, and answers whether they do.
+// Appends keys and values to a layer that has `len` positions, where they fit, and answers whether they do.
 pub fn append_rows(
     shape: Shape,
     layer: u32,
-    held: u32,
+    len: u32,
     keys: &[u32],
     values: &[u32],
     cells: &mut [u8],
@@ -41,7 +41,7 @@ pub fn append_rows(
     ensures { λ r.
         ⌜
         tells r (buffers (now (cells .exit)) (now (scales .exit)))
-        ≡ appendRowsOf shape layer held (now (keys .entry)) (now (values .entry)) (buffers (now (cells .entry)) (now (scales .entry)))
+        ≡ appendRowsOf shape layer len (now (keys .entry)) (now (values .entry)) (buffers (now (cells .entry)) (now (scales .entry)))
         ⌝ }
 {
     if !has_room(shape, cells.len(), scales.len()) {
@@ -49,21 +49,21 @@ pub fn append_rows(
     }
     let width = shape.heads as usize * shape.head_size as usize;
     let n = keys.len() / width;
-    let fits = (layer < shape.layers) & (held as usize + n <= shape.capacity as usize);
+    let fits = (layer < shape.layers) & (len as usize + n <= shape.capacity as usize);
     let whole = (keys.len() % width == 0) & (values.len() == keys.len());
     if !(fits & whole) {
         return false;
     }
-    put_positions(shape, layer, 0, held as usize, n, keys, cells, scales);
-    put_positions(shape, layer, 1, held as usize, n, values, cells, scales);
+    put_positions(shape, layer, 0, len as usize, n, keys, cells, scales);
+    put_positions(shape, layer, 1, len as usize, n, values, cells, scales);
     true
 }
 
-// Removes the positions from `t` on of a layer that has `held`, where it fits, and answers whether it does.
+// Removes the positions from `t` on of a layer that has `len`, where it fits, and answers whether it does.
 pub fn remove_rows(
     shape: Shape,
     layer: u32,
-    held: u32,
+    len: u32,
     t: u32,
     cells: &mut [u8],
     scales: &mut [u32],
@@ -71,15 +71,15 @@ pub fn remove_rows(
     ensures { λ r.
         ⌜
         tells r (buffers (now (cells .exit)) (now (scales .exit)))
-        ≡ removeRowsOf shape layer held t (buffers (now (cells .entry)) (now (scales .entry)))
+        ≡ removeRowsOf shape layer len t (buffers (now (cells .entry)) (now (scales .entry)))
         ⌝ }
 {
-    let fits = (layer < shape.layers) & (held <= shape.capacity);
+    let fits = (layer < shape.layers) & (len <= shape.capacity);
     if !(has_room(shape, cells.len(), scales.len()) & fits) {
         return false;
     }
-    if t < held {
-        let n = (held - t) as usize;
+    if t < len {
+        let n = (len - t) as usize;
         clear_side(shape, layer, 0, t as usize, n, cells, scales);
         clear_side(shape, layer, 1, t as usize, n, cells, scales);
     }
@@ -129,10 +129,10 @@ fn put_positions(
 }
 
 // How many positions are written next: eight while there are as many.
-fn next_positions(left: usize) -> usize
-    ensures { λ r. ⌜ r ≡ min left 8 ⌝ }
+fn next_positions(rest: usize) -> usize
+    ensures { λ r. ⌜ r ≡ min rest 8 ⌝ }
 {
-    if left < 8 { left } else { 8 }
+    if rest < 8 { rest } else { 8 }
 }
 
 // Rows in each head of a side: head after head, a block further in both buffers.

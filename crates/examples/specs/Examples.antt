@@ -40,8 +40,8 @@ shape f l h d c = record { format = f; layers = l; heads = h; «head_size» = d;
 -- keys and values appended to a store of a shape, newly opened in used buffers
 abbrev filled : Shape → List ℕ → List ℕ → Outcome Store
 filled s keys values =
-    let new = openOf s (buffers (replicate (cellTotal s) 0xa5) (replicate (scaleTotal s) 0xa5)) .left in
-    appendOf (new .rec) (new .lent) 0 keys values
+    let new = openOf s (buffers (replicate (cellTotal s) 0xa5) (replicate (scaleTotal s) 0xa5)) .result in
+    appendOf (new .rec) (new .memory) 0 keys values
 
 -- what comes out: floats as words
 unfoldable pub answer : Asked → List ℕ
@@ -51,15 +51,15 @@ answer (group4 run) = word (scaleOf 7 run) ∷ (packed run (scaleOf 7 run) ++ un
 answer (quotient bits) = code8 bits (float 0x3f80_0000) ∷ []
 answer (quotient4 bits) = code4 bits (float 0x3f80_0000) ∷ []
 answer (half w) = bf16 w ∷ []
-answer (stored s keys values) = let done = filled s keys values in done .reply ∷ (done .left .lent .cells ++ done .left .lent .scales)
+answer (stored s keys values) = let done = filled s keys values in done .reply ∷ (done .result .memory .cells ++ done .result .memory .scales)
 answer (scored s keys values query x m) =
-    let b = filled s keys values .left in
-    let done = headScoresOf (b .rec) (b .lent) 0 0 (map float query) (float x) (replicate m 0xa5a5_a5a5) in
-    done .reply ∷ done .left
+    let b = filled s keys values .result in
+    let done = headScoresOf (b .rec) (b .memory) 0 0 (map float query) (float x) (replicate m 0xa5a5_a5a5) in
+    done .reply ∷ done .result
 answer (weighed s keys values weights) =
-    let b = filled s keys values .left in
-    let done = headSumsOf (b .rec) (b .lent) 0 0 (map float weights) (replicate (headSize s) 0xa5a5_a5a5) in
-    done .reply ∷ done .left
+    let b = filled s keys values .result in
+    let done = headSumsOf (b .rec) (b .memory) 0 0 (map float weights) (replicate (headSize s) 0xa5a5_a5a5) in
+    done .reply ∷ done .result
 
 -- example n of the paper
 pub data Example : Type 0 where

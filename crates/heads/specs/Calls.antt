@@ -26,14 +26,14 @@ termAt s l h weights b p = rowTerm (s .format) (getD weights p nan) (cellsAt s l
 unfoldable pub sumsAt : Shape → ℕ → ℕ → List Float → Buffers → List ℕ
 sumsAt s l h weights b = sumsOf (headSize s) (length weights) (termAt s l h weights b)
 
--- the refusals past those of the store, where a layer has `held` positions: `given` numbers of a query or of an output, m scores or weights
+-- the refusals past those of the store, where a layer has `len` positions: `given` numbers of a query or of an output, m scores or weights
 abbrev pub headRefusals : Shape → ℕ → ℕ → ℕ → ℕ → ℕ → List Refusal
-headRefusals s l held h given m =
+headRefusals s l len h given m =
     (4 when not (hasLayer s l))
     ∷ (5 when not (ltb h (s .heads)))
     ∷ (6 when not (hasScores (s .format)))
     ∷ (7 when not (eqb given (headSize s)))
-    ∷ (8 when not (leb m held))
+    ∷ (8 when not (leb m len))
     ∷ []
 
 -- each call

@@ -13,20 +13,20 @@ use Rattle.shapes.specs.Buffers.{Buffers}
 use Rattle.store.specs.declared.Record.{Record}
 use Rattle.store.specs.Calls.{Store, openOf, appendOf, truncateOf, advanceOf, cachedLenOf, memoryBytesOf, readOf}
 use Rattle.heads.specs.Calls.{headScoresOf, headSumsOf}
-use Rattle.host.specs.Words.{recordOf, need, needTold, seen, told}
+use Rattle.host.specs.Words.{recordOf, need, needTold, seen, replied}
 use Rattle.host.proofs.WordLaws.{same-words}
 
--- one reply and one thing told: a count, a row, scores, sums
+-- one reply and one thing replied: a count, a row, scores, sums
 abbrev pub OneTold : {A : Type 0} → Outcome A → Type 0
-OneTold {A} o = (n n′ : ℕ) (x x′ : A) → told n x ≡ o → told n′ x′ ≡ o → (n ≡ n′) × (x ≡ x′)
+OneTold {A} o = (n n′ : ℕ) (x x′ : A) → replied n x ≡ o → replied n′ x′ ≡ o → (n ≡ n′) × (x ≡ x′)
 
 -- one reply and two lengths
 abbrev pub OneNeed : Outcome Need → Type 0
-OneNeed o = (n n′ c c′ s s′ : ℕ) → told n (need c s) ≡ o → told n′ (need c′ s′) ≡ o → (n ≡ n′) × (c ≡ c′) × (s ≡ s′)
+OneNeed o = (n n′ c c′ s s′ : ℕ) → replied n (need c s) ≡ o → replied n′ (need c′ s′) ≡ o → (n ≡ n′) × (c ≡ c′) × (s ≡ s′)
 
 -- one reply and the same 134 words
 abbrev pub OneWords : Outcome Record → Type 0
-OneWords o = (n n′ : ℕ) (w w′ : List ℕ) → length w ≡ 134 → length w′ ≡ 134 → told n (recordOf w) ≡ o → told n′ (recordOf w′) ≡ o → (n ≡ n′) × (w ≡ w′)
+OneWords o = (n n′ : ℕ) (w w′ : List ℕ) → length w ≡ 134 → length w′ ≡ 134 → replied n (recordOf w) ≡ o → replied n′ (recordOf w′) ≡ o → (n ≡ n′) × (w ≡ w′)
 
 -- and the same bytes and words in both buffers
 abbrev pub OneSeen : Outcome Store → Type 0
@@ -36,7 +36,7 @@ OneSeen o =
 one-told : {A : Type 0} (o : Outcome A) → OneTold o
 one-told {A} o n n′ x x′ e e′ =
     let q = e ∙ sym e′ in
-    (ap (λ (o : Outcome A). o .reply) q, ap (λ (o : Outcome A). o .left) q)
+    (ap (λ (o : Outcome A). o .reply) q, ap (λ (o : Outcome A). o .result) q)
 
 one-need : (o : Outcome Need) → OneNeed o
 one-need o n n′ c c′ s s′ e e′ =
@@ -53,8 +53,8 @@ one-seen o n n′ w w′ c c′ s s′ l l′ e e′ =
     let q = one-told o n n′ _ _ e e′ in (
       q .0,
       same-words w w′ l l′ (ap (λ (x : Store). x .rec) (q .1)),
-      ap (λ (x : Store). x .lent .cells) (q .1),
-      ap (λ (x : Store). x .lent .scales) (q .1),
+      ap (λ (x : Store). x .memory .cells) (q .1),
+      ap (λ (x : Store). x .memory .scales) (q .1),
     )
 
 -- each call

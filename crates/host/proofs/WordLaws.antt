@@ -17,7 +17,7 @@ use Rattle.shapes.specs.Buffers.{buffers}
 use Rattle.store.specs.Record.{seqLen}
 use Rattle.store.specs.Calls.{Store, store}
 use Rattle.store.specs.declared.Record.{Record}
-use Rattle.host.specs.Words.{recordOf, wordsOf, needTold, seen, told}
+use Rattle.host.specs.Words.{recordOf, wordsOf, needTold, seen, replied}
 
 -- the words of a record, as a record
 pub record-words : (r : Record) → recordOf (wordsOf r) ≡ r
@@ -39,20 +39,20 @@ words-record w e =
 pub same-words : (w w′ : List ℕ) → length w ≡ 134 → length w′ ≡ 134 → recordOf w ≡ recordOf w′ → w ≡ w′
 same-words w w′ e e′ q = sym (words-record w e) ∙ ap wordsOf q ∙ words-record w′ e′
 
--- what the store answers and leaves is what the host is told, and sees where a record comes back as words
-pub as-told : {A : Type 0} {n m : ℕ} {x y : A} {o : Outcome A} → n ≡ m → x ≡ y → told m y ≡ o → told n x ≡ o
+-- what the store answers and leaves is what the host is replied, and sees where a record comes back as words
+pub as-told : {A : Type 0} {n m : ℕ} {x y : A} {o : Outcome A} → n ≡ m → x ≡ y → replied m y ≡ o → replied n x ≡ o
 as-told p q e = rw (p, q) e
 
 pub as-seen : {n m : ℕ} {w w′ cells scales : List ℕ} {o : Outcome Store} → n ≡ m → w ≡ w′ → seen m w′ cells scales ≡ o
     → seen n w cells scales ≡ o
 as-seen {cells = cells} {scales = scales} p q e = as-told p (ap (λ (l : List ℕ). store (recordOf l) (buffers cells scales)) q) e
 
--- what a shape inside the limits is told, and one outside them
-pub need-inside : (s : Shape) {n : ℕ} {x : Need} → within s ≡ true → n ≡ 0 → x ≡ needOf s → told n x ≡ needTold s
+-- what a shape inside the limits is replied, and one outside them
+pub need-inside : (s : Shape) {n : ℕ} {x : Need} → within s ≡ true → n ≡ 0 → x ≡ needOf s → replied n x ≡ needTold s
 unfolding needTold outcome lowest needOf
 need-inside s h e q = rw (e, q, h)
 
-pub need-outside : (s : Shape) {n : ℕ} {x : Need} → within s ≡ false → n ≡ 1 → x ≡ needOf s → told n x ≡ needTold s
+pub need-outside : (s : Shape) {n : ℕ} {x : Need} → within s ≡ false → n ≡ 1 → x ≡ needOf s → replied n x ≡ needTold s
 unfolding needTold outcome lowest needOf
 need-outside s h e q = rw (e, q, h)
 

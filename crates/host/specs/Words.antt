@@ -29,7 +29,7 @@ wordsOf r =
 
 -- a reply's number beside the words, the cells and the scale words that are left
 abbrev pub seen : ℕ → List ℕ → List ℕ → List ℕ → Outcome Store
-seen reply words cells scales = record { reply = reply; left = store (recordOf words) (buffers cells scales) }
+seen reply words cells scales = record { reply = reply; result = store (recordOf words) (buffers cells scales) }
 
 abbrev pub need : ℕ → ℕ → Need
 need cells scales = record { cells = cells; scales = scales }
@@ -38,5 +38,5 @@ need cells scales = record { cells = cells; scales = scales }
 unfoldable pub needTold : Shape → Outcome Need
 needTold s = outcome ((1 when not (within s)) ∷ []) (need (cellTotal s) (scaleTotal s)) (need 0 0)
 
-abbrev pub told : {A : Type 0} → ℕ → A → Outcome A
-told reply x = record { reply = reply; left = x }
+abbrev pub replied : {A : Type 0} → ℕ → A → Outcome A
+replied reply x = record { reply = reply; result = x }

@@ -19,7 +19,7 @@ ghost use Rattle.groups.specs.Group.{groupReply, packInto, unpackInto};
 ghost use Rattle.shapes.specs.Buffers.{buffers};
 ghost use Rattle.store.specs.Calls.{openOf, appendOf, truncateOf, advanceOf, cachedLenOf, memoryBytesOf, readOf};
 ghost use Rattle.heads.specs.Calls.{headScoresOf, headSumsOf};
-ghost use Rattle.host.specs.Words.{recordOf, shapeOf, need, needTold, seen, told};
+ghost use Rattle.host.specs.Words.{recordOf, shapeOf, need, needTold, seen, replied};
 
 // The scale of an INT8 head.
 #[no_mangle]
@@ -108,7 +108,7 @@ pub extern "C" fn kv_need(
 ) -> u32
     ensures { λ r.
         ⌜
-        told r (need (now (cells .exit)) (now (scales .exit)))
+        replied r (need (now (cells .exit)) (now (scales .exit)))
         ≡ needTold (shapeOf format layers heads «head_size» capacity)
         ⌝ }
 {
@@ -205,7 +205,7 @@ pub extern "C" fn kv_truncate(
 // Adds to the sequence number.
 #[no_mangle]
 pub extern "C" fn kv_advance(rec: &mut [u32; 134], count: u32) -> u32
-    ensures { λ r. ⌜ told r (recordOf (now (rec .exit))) ≡ advanceOf (recordOf (now (rec .entry))) count ⌝ }
+    ensures { λ r. ⌜ replied r (recordOf (now (rec .exit))) ≡ advanceOf (recordOf (now (rec .entry))) count ⌝ }
 {
     let answer = store::advance_seq_len(record_of(*rec), count);
     *rec = words_of(answer.after);
@@ -216,7 +216,7 @@ pub extern "C" fn kv_advance(rec: &mut [u32; 134], count: u32) -> u32
 // The positions of a layer, in `count`.
 #[no_mangle]
 pub extern "C" fn kv_cached_len(rec: &[u32; 134], layer: u32, count: &mut u64) -> u32
-    ensures { λ r. ⌜ told r (now (count .exit)) ≡ cachedLenOf (recordOf (now (rec .entry))) layer ⌝ }
+    ensures { λ r. ⌜ replied r (now (count .exit)) ≡ cachedLenOf (recordOf (now (rec .entry))) layer ⌝ }
 {
     let answer = store::cached_len(record_of(*rec), layer);
     *count = answer.count;
@@ -227,7 +227,7 @@ pub extern "C" fn kv_cached_len(rec: &[u32; 134], layer: u32, count: &mut u64) -
 // The bytes of all rows, in `count`.
 #[no_mangle]
 pub extern "C" fn kv_memory_bytes(rec: &[u32; 134], count: &mut u64) -> u32
-    ensures { λ r. ⌜ told r (now (count .exit)) ≡ memoryBytesOf (recordOf (now (rec .entry))) ⌝ }
+    ensures { λ r. ⌜ replied r (now (count .exit)) ≡ memoryBytesOf (recordOf (now (rec .entry))) ⌝ }
 {
     let answer = store::memory_bytes(record_of(*rec));
     *count = answer.count;
@@ -249,7 +249,7 @@ pub extern "C" fn kv_read_row(
 ) -> u32
     ensures { λ r.
         ⌜
-        told r (now (out .exit))
+        replied r (now (out .exit))
         ≡ readOf (recordOf (now (rec .entry))) (buffers (now (cells .entry)) (now (scales .entry))) layer side head position (now (out .entry))
         ⌝ }
 {
@@ -279,7 +279,7 @@ pub extern "C" fn kv_scores(
 ) -> u32
     ensures { λ r.
         ⌜
-        told r (now (out .exit))
+        replied r (now (out .exit))
         ≡ headScoresOf (recordOf (now (rec .entry))) (buffers (now (cells .entry)) (now (scales .entry))) layer head (now (query .entry)) scale (now (out .entry))
         ⌝ }
 {
@@ -308,7 +308,7 @@ pub extern "C" fn kv_sums(
 ) -> u32
     ensures { λ r.
         ⌜
-        told r (now (out .exit))
+        replied r (now (out .exit))
         ≡ headSumsOf (recordOf (now (rec .entry))) (buffers (now (cells .entry)) (now (scales .entry))) layer head (now (weights .entry)) (now (out .entry))
         ⌝ }
 {

@@ -20,16 +20,16 @@ pub play-in-determined : (o : Play) (a a′ : Played) (c c′ w w′ t t′ : Li
     → (a ≡ a′) × (c ≡ c′) × (w ≡ w′) × (t ≡ t′)
 play-in-determined o a a′ c c′ w w′ t t′ e e′ =
     let q = e ∙ sym e′ in (
-      same-played a a′ (ap (λ (p : Play). p .last .place) q) (ap (λ (p : Play). p .text .count) q) (ap (λ (p : Play). p .last .held .rec) q),
-      ap (λ (p : Play). p .last .held .lent .cells) q,
-      ap (λ (p : Play). p .last .held .lent .scales) q,
+      same-played a a′ (ap (λ (p : Play). p .last .place) q) (ap (λ (p : Play). p .text .count) q) (ap (λ (p : Play). p .last .cache .rec) q),
+      ap (λ (p : Play). p .last .cache .memory .cells) q,
+      ap (λ (p : Play). p .last .cache .memory .scales) q,
       ap (λ (p : Play). p .text .out) q,
     )
 
 -- and in the room at hand, which nobody sees afterwards
 pub play-determined : (l : Laid) (w : Walk) (a a′ : Played) (t t′ : List ℕ)
-    → _≡_ {A = Laid} (record { count = a .count; out = t }) l → (a .place ≡ w .place) × (a .after ≡ w .held .rec)
-    → _≡_ {A = Laid} (record { count = a′ .count; out = t′ }) l → (a′ .place ≡ w .place) × (a′ .after ≡ w .held .rec)
+    → _≡_ {A = Laid} (record { count = a .count; out = t }) l → (a .place ≡ w .place) × (a .after ≡ w .cache .rec)
+    → _≡_ {A = Laid} (record { count = a′ .count; out = t′ }) l → (a′ .place ≡ w .place) × (a′ .after ≡ w .cache .rec)
     → (a ≡ a′) × (t ≡ t′)
 play-determined l w a a′ t t′ e (p, r) e′ (p′, r′) =
     let q = laid-determined l e e′ in

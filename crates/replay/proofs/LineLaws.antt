@@ -34,14 +34,14 @@ unfolding reportOf memoryBytesOf
 report-by r true e = rw e (sound-most r _ (sound-record r (sym (given-number (recordRefusals r) (byteCount r) 0 refl) ∙ eqb-true _ 0 e)))
 report-by r false e = rw e (answer-most _)
 
-effect-most : (file : List ℕ) (at : ℕ) (e : Entry) (held : Store) → length (textOf (effectOf file at e held .line)) ≤ 700
-effect-most file at (Open s) held = answer-most _
-effect-most file at (Append l n) held = answer-most _
-effect-most file at (Truncate l t) held = answer-most _
-effect-most file at (Advance n) held = answer-most _
-effect-most file at Report held = report-by (held .rec) _ refl
-effect-most file at End held = omega arith
-effect-most file at Bad held = bad-most at
+effect-most : (file : List ℕ) (at : ℕ) (e : Entry) (cache : Store) → length (textOf (effectOf file at e cache .line)) ≤ 700
+effect-most file at (Open s) cache = answer-most _
+effect-most file at (Append l n) cache = answer-most _
+effect-most file at (Truncate l t) cache = answer-most _
+effect-most file at (Advance n) cache = answer-most _
+effect-most file at Report cache = report-by (cache .rec) _ refl
+effect-most file at End cache = omega arith
+effect-most file at Bad cache = bad-most at
 
 size-some : (e : Entry) → 0 < sizeOf e → 3 ≤ sizeOf e
 size-some (Open s) h = omega arith
@@ -55,7 +55,7 @@ size-some Bad h = absurd (omega arith)
 module _ (file : List ℕ) where
   pub line-most : (w : Walk) → length (textOf (stepOf file w .line)) ≤ 700
   unfolding stepOf
-  line-most w = effect-most file (w .place) (entryAt file (w .place)) (w .held)
+  line-most w = effect-most file (w .place) (entryAt file (w .place)) (w .cache)
 
   pub step-some : (w : Walk) → w .place < stepOf file w .after .place → w .place + 3 ≤ stepOf file w .after .place
   unfolding stepOf

@@ -13,18 +13,18 @@ use Rattle.replay.specs.Step.{answer, reportOf, advanceIn, effectOf}
 use Rattle.replay.specs.Transcript.{start}
 
 module _ (file : List ℕ) (place l n : ℕ) (room : Buffers) where
-  pub append-not-open : effectOf file place (Append l n) (start room .held) .line ≡ answer 1
+  pub append-not-open : effectOf file place (Append l n) (start room .cache) .line ≡ answer 1
   unfolding appendIn appendOf outcome lowest layouts known limits within total
   append-not-open = refl
 
-  pub truncate-not-open : effectOf file place (Truncate l n) (start room .held) .line ≡ answer 1
+  pub truncate-not-open : effectOf file place (Truncate l n) (start room .cache) .line ≡ answer 1
   unfolding truncateIn truncateOf outcome lowest layouts known limits within total
   truncate-not-open = refl
 
-  pub advance-not-open : effectOf file place (Advance n) (start room .held) .line ≡ answer 1
+  pub advance-not-open : effectOf file place (Advance n) (start room .cache) .line ≡ answer 1
   unfolding advanceIn advanceOf outcome lowest layouts known limits within total
   advance-not-open = refl
 
-  pub report-not-open : effectOf file place Report (start room .held) .line ≡ answer 1
+  pub report-not-open : effectOf file place Report (start room .cache) .line ≡ answer 1
   unfolding reportOf memoryBytesOf outcome lowest layouts known limits within total
   report-not-open = refl

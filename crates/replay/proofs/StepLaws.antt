@@ -8,7 +8,7 @@ use lib.ListN.{length, take, drop}
 use lib.Seq.{take-at, length-front, length-take-le}
 use Rattle.replies.specs.Outcome.{Outcome}
 use Rattle.store.specs.declared.Changed.{Changed}
-use Rattle.store.specs.Calls.{Store, left}
+use Rattle.store.specs.Calls.{Store, changedStore}
 use Rattle.callfile.specs.declared.Entry.{Entry}
 use Rattle.callfile.specs.Format.{words, entryAt, sizeOf, placeAfter, wordsRead}
 use Rattle.callfile.proofs.FormatLaws.{words-length, words-read}
@@ -42,29 +42,29 @@ module _ (file : List ℕ) (at n : ℕ) (side y : List ℕ) (sized : 512 ≡ len
   side-read = rw read (take-at (words n file at) _ n (words-length n file at))
 
 -- an append of what is lent of both sides
-pub sides-lent : (n l : ℕ) (keys values : List ℕ) (held : Store) {k v : List ℕ} {o : Outcome Store} → take n keys ≡ k → take n values ≡ v
-    → o ≡ appendIn l (take (n - 0) keys) (take (n - 0) values) held → o ≡ appendIn l k v held
-sides-lent n l keys values held p q e = let z : n - 0 ≡ n = omega arith in rw (← p, ← q) (rw z at e)
+pub sides-lent : (n l : ℕ) (keys values : List ℕ) (cache : Store) {k v : List ℕ} {o : Outcome Store} → take n keys ≡ k → take n values ≡ v
+    → o ≡ appendIn l (take (n - 0) keys) (take (n - 0) values) cache → o ≡ appendIn l k v cache
+sides-lent n l keys values cache p q e = let z : n - 0 ≡ n = omega arith in rw (← p, ← q) (rw z at e)
 
 -- a call's answer, told
 pub answered-by : {a : Told} {r : Changed} {cells scales : List ℕ} {o : Outcome Store} → a ≡ told r → left r cells scales ≡ o → effect a cells scales ≡ answers o
 answered-by p q = rw p (ap answers q)
 
 -- a step, by what stands at its place and what that does
-pub step-done : (file : List ℕ) (at : ℕ) (held : Store) {e : Entry} {line : Printed} {after : Store} {next : ℕ} → e ≡ entryAt file at
-    → record { line = line; held = after } ≡ effectOf file at e held → next ≡ placeAfter file at
-    → record { line = line; after = walk next after } ≡ stepOf file (walk at held)
+pub step-done : (file : List ℕ) (at : ℕ) (cache : Store) {e : Entry} {line : Printed} {after : Store} {next : ℕ} → e ≡ entryAt file at
+    → record { line = line; cache = after } ≡ effectOf file at e cache → next ≡ placeAfter file at
+    → record { line = line; after = walk next after } ≡ stepOf file (walk at cache)
 unfolding stepOf
-step-done file at held {e} p q n = rw (n, ← p) (ap (λ (x : Effect). record { line = x .line; after = walk (at + sizeOf e) (x .held) }) q)
+step-done file at cache {e} p q n = rw (n, ← p) (ap (λ (x : Effect). record { line = x .line; after = walk (at + sizeOf e) (x .cache) }) q)
 
 -- a turn, by the step and by the line that is laid
 pub turn-done : (file : List ℕ) (p : Play) {e : Entry} {line : Printed} {after : Store} {next : ℕ} {text : Laid} → e ≡ entryAt file (p .last .place)
-    → record { line = line; held = after } ≡ effectOf file (p .last .place) e (p .last .held) → next ≡ p .last .place + sizeOf e
+    → record { line = line; cache = after } ≡ effectOf file (p .last .place) e (p .last .cache) → next ≡ p .last .place + sizeOf e
     → text ≡ laidAt (p .text .count) (textOf line) (p .text .out) → p .text .count + 2048 ≤ length (p .text .out)
     → record { last = walk next after; text = text } ≡ turned file p
 turn-done file p {line = line} {after} {next} x q n t h =
     let at = p .text .count in
     let out = p .text .out in
-    let s = step-done file (p .last .place) (p .last .held) x q (rw x at n) in
+    let s = step-done file (p .last .place) (p .last .cache) x q (rw x at n) in
     ap (λ (l : Laid). record { last = walk next after; text = l }) (t ∙ laid-there at (textOf line) out h)
     ∙ ap (λ (s : Step). record { last = s .after; text = record { count = at + length (textOf (s .line)); out = over at (textOf (s .line)) out } }) s

@@ -29,39 +29,39 @@ pub data Printed : Type 0 where
 -- what is printed, and the store afterwards
 pub record Effect : Type 0 where
   pub line : Printed
-  pub held : Store
+  pub cache : Store
 
 abbrev pub answers : Outcome Store → Effect
-answers o = record { line = answer (o .reply); held = o .left }
+answers o = record { line = answer (o .reply); cache = o .result }
 
 -- advance: the record alone
 unfoldable pub advanceIn : ℕ → Store → Outcome Store
-advanceIn n held = let o = advanceOf (held .rec) n in record { reply = o .reply; left = store (o .left) (held .lent) }
+advanceIn n cache = let o = advanceOf (cache .rec) n in record { reply = o .reply; result = store (o .result) (cache .memory) }
 
 -- a report: the sequence number, the byte count and the length of each layer
 abbrev pub reported : Record → ℕ → Printed
 reported r bytes = report (seqLen r) bytes (take (r .shape .layers) (r .lens))
 
 unfoldable pub reportOf : Record → Printed
-reportOf r = let o = memoryBytesOf r in cond (eqb (o .reply) 0) (reported r (o .left)) (answer (o .reply))
+reportOf r = let o = memoryBytesOf r in cond (eqb (o .reply) 0) (reported r (o .result)) (answer (o .reply))
 
 -- what each kind of record does to the store
 abbrev pub effectOf : List ℕ → ℕ → Entry → Store → Effect
-effectOf file at (Open s) held = answers (openIn s held)
-effectOf file at (Append l n) held = answers (appendIn l (keysAt n file at) (valuesAt n file at) held)
-effectOf file at (Truncate l t) held = answers (truncateIn l t held)
-effectOf file at (Advance n) held = answers (advanceIn n held)
-effectOf file at Report held = record { line = reportOf (held .rec); held = held }
-effectOf file at End held = record { line = nothing; held = held }
-effectOf file at Bad held = record { line = badAt at; held = held }
+effectOf file at (Open s) cache = answers (openIn s cache)
+effectOf file at (Append l n) cache = answers (appendIn l (keysAt n file at) (valuesAt n file at) cache)
+effectOf file at (Truncate l t) cache = answers (truncateIn l t cache)
+effectOf file at (Advance n) cache = answers (advanceIn n cache)
+effectOf file at Report cache = record { line = reportOf (cache .rec); cache = cache }
+effectOf file at End cache = record { line = nothing; cache = cache }
+effectOf file at Bad cache = record { line = badAt at; cache = cache }
 
 -- a place of the file, and the store there
 pub record Walk : Type 0 where
   pub place : ℕ
-  pub held : Store
+  pub cache : Store
 
 abbrev pub walk : ℕ → Store → Walk
-walk place held = record { place = place; held = held }
+walk place cache = record { place = place; cache = cache }
 
 -- a step: what the record at the place has printed, and the walk past it
 pub record Step : Type 0 where
@@ -70,8 +70,8 @@ pub record Step : Type 0 where
 
 unfoldable pub stepOf : List ℕ → Walk → Step
 stepOf file w =
-    let e = effectOf file (w .place) (entryAt file (w .place)) (w .held) in
-    record { line = e .line; after = walk (placeAfter file (w .place)) (e .held) }
+    let e = effectOf file (w .place) (entryAt file (w .place)) (w .cache) in
+    record { line = e .line; after = walk (placeAfter file (w .place)) (e .cache) }
 
 -- what a line says beside its record
 abbrev pub printed : Line → Record → Printed
@@ -82,7 +82,7 @@ printed Nothing r = nothing
 
 -- what an answer and the lent memory say together
 abbrev pub effect : Told → List ℕ → List ℕ → Effect
-effect a cells scales = record { line = printed (a .line) (a .after); held = store (a .after) (buffers cells scales) }
+effect a cells scales = record { line = printed (a .line) (a .after); cache = store (a .after) (buffers cells scales) }
 
 abbrev pub told : Changed → Told
 told a = record { line = Answer (a .reply); after = a .after }

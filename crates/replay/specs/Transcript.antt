@@ -42,7 +42,7 @@ walkFrom (suc k) file w =
 -- a whole file in some room; input over the limit prints only `bad at 16384`, and is left there before its first record
 unfoldable pub playOf : List ℕ → Buffers → Whole
 playOf file room =
-    cond (leb (length file) 16384) (walkFrom (length file) file (start room)) (record { last = walk 16384 (start room .held); text = badText 16384 })
+    cond (leb (length file) 16384) (walkFrom (length file) file (start room)) (record { last = walk 16384 (start room .cache); text = badText 16384 })
 
 -- 32,768 cell bytes and 2,048 scale words at hand
 abbrev pub atHand : Buffers

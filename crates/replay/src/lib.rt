@@ -21,7 +21,7 @@ ghost use mathlib.Core.Path.{_≡_};
 ghost use Prim.Native.Nat.{_+_, _*_, _≤_};
 ghost use lib.ListN.{length, take};
 ghost use Rattle.shapes.specs.Buffers.{buffers};
-ghost use Rattle.store.specs.Calls.{store, left};
+ghost use Rattle.store.specs.Calls.{store, changedStore};
 ghost use Rattle.callfile.specs.Format.{words, entryAt, keysAt, valuesAt};
 ghost use Rattle.arena.specs.Calls.{appendIn};
 ghost use Rattle.printing.specs.Text.{laid, laidAt};
@@ -56,7 +56,7 @@ pub struct Played {
 // Plays a call file in the room that the paper gives the program, and lays all that it prints into `out`.
 pub fn play(file: &[u8], out: &mut [u8; 4_194_304]) -> Played
     ensures text { λ r. ⌜ record { count = r .count; out = now (out .exit) } ≡ laid (transcript (now (file .entry))) (now (out .entry)) ⌝ }
-    ensures last { λ r. ⌜ (r .place ≡ playOf (now (file .entry)) atHand .last .place) × (r .after ≡ playOf (now (file .entry)) atHand .last .held .rec) ⌝ }
+    ensures last { λ r. ⌜ (r .place ≡ playOf (now (file .entry)) atHand .last .place) × (r .after ≡ playOf (now (file .entry)) atHand .last .cache .rec) ⌝ }
 {
     let mut cells = no_cells();
     let mut scales = no_scales();
@@ -157,7 +157,7 @@ fn append_from(
     requires { ⌜ (at + 7 + 8 * n ≤ length (now file)) × (n ≤ 512) ⌝ }
     ensures { λ r.
         ⌜
-        left r (now (cells .exit)) (now (scales .exit))
+        changedStore r (now (cells .exit)) (now (scales .exit))
         ≡ appendIn layer (keysAt n (now (file .entry)) at) (valuesAt n (now (file .entry)) at)
         (store «record» (buffers (now (cells .entry)) (now (scales .entry))))
         ⌝ }

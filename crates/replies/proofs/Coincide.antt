@@ -35,4 +35,4 @@ One {A} o = (r r′ : Reply) (x x′ : A) → answered r x ≡ o → answered r�
 pub coincide : {A : Type 0} (o : Outcome A) → One o
 coincide {A} o r r′ x x′ e e′ =
     let q = e ∙ sym e′ in
-    (same-reply r r′ (ap (λ (o : Outcome A). o .reply) q), ap (λ (o : Outcome A). o .left) q)
+    (same-reply r r′ (ap (λ (o : Outcome A). o .reply) q), ap (λ (o : Outcome A). o .result) q)

@@ -84,12 +84,12 @@ pub exactly : (m n : ℕ) (a : List Refusal) → rising m a ≡ true → (lowest
 exactly m n a r = (λ e. subst (λ (k : ℕ). Applies k a) e (given m a r), only n a)
 
 -- what a call leaves, done and refused
-pub outcome-done : {A : Type 0} (a : List Refusal) (new old : A) → lowest a ≡ 0 → outcome a new old ≡ record { reply = 0; left = new }
+pub outcome-done : {A : Type 0} (a : List Refusal) (new old : A) → lowest a ≡ 0 → outcome a new old ≡ record { reply = 0; result = new }
 unfolding outcome
 outcome-done a new old h = rw h
 
 pub outcome-refused : {A : Type 0} (a : List Refusal) (new old : A) → (lowest a ≡ 0 → ⊥)
-    → outcome a new old ≡ record { reply = lowest a; left = old }
+    → outcome a new old ≡ record { reply = lowest a; result = old }
 unfolding outcome
 outcome-refused a new old h = rw (ne-eqb (lowest a) 0 h)
 
@@ -101,6 +101,6 @@ pub still-passed : {n m k : ℕ} → n ≡ m → m ≡ k → n ≡ 0 → k ≡ 0
 still-passed e f z = sym (e ∙ f) ∙ z
 
 -- the number that an outcome gives
-pub given-number : {A : Type 0} (a : List Refusal) (new old : A) {r : ℕ} {x : A} → record { reply = r; left = x } ≡ outcome a new old → r ≡ lowest a
+pub given-number : {A : Type 0} (a : List Refusal) (new old : A) {r : ℕ} {x : A} → record { reply = r; result = x } ≡ outcome a new old → r ≡ lowest a
 unfolding outcome
 given-number a new old e = ap (λ (o : Outcome _). o .reply) e

@@ -9,4 +9,4 @@ module _ {A : Type 0} {fits : Bool} (new old : A) (e : fits ≡ true) where
   tried-done q = rw (e, q)
 
   pub tried-left : {done : Bool} {x : A} → tells done x ≡ tried fits new old → x ≡ new
-  tried-left q = ap (λ (o : Tried A). o .left) q ∙ rw e
+  tried-left q = ap (λ (o : Tried A). o .result) q ∙ rw e

@@ -29,11 +29,11 @@ Applies n ((m when holds) ∷ others) = Here (eqb n m) holds (Applies n others)
 -- a reply's number, and what the call leaves of what it may change
 pub record Outcome (A : Type 0) : Type 0 where
   pub reply : ℕ
-  pub left : A
+  pub result : A
 
 abbrev pub answered : {A : Type 0} → Reply → A → Outcome A
-answered r left = record { reply = replyNumber r; left = left }
+answered r result = record { reply = replyNumber r; result = result }
 
 -- done, a call leaves what is new; refused, what was there
 unfoldable pub outcome : {A : Type 0} → List Refusal → A → A → Outcome A
-outcome refusals new old = record { reply = lowest refusals; left = cond (eqb (lowest refusals) 0) new old }
+outcome refusals new old = record { reply = lowest refusals; result = cond (eqb (lowest refusals) 0) new old }

@@ -23,7 +23,7 @@ use Rattle.buffers.specs.Calls.{appended, removed, layerFits, wholeRows, append
 use Rattle.store.specs.declared.Record.{Record}
 use Rattle.store.specs.Record.{seqLen, lengthOf}
 use Rattle.store.specs.Calls.{store, bufferRefusals, recordRefusals, lentRefusals, storeRefusals, fitsAfter, appendRefusals, removeRefusals, sequenceRefusal}
-use Rattle.store.proofs.StoreLaws.{Sound, sound-limits, held-in}
+use Rattle.store.proofs.StoreLaws.{Sound, sound-limits, len-in}
 
 -- opening: buffers that are not refused have the lengths of the zeros
 pub zeros-left : (s : Shape) (b : Buffers) {cells scales : List ℕ} → lowest (bufferRefusals s b) ≡ 0
@@ -63,8 +63,8 @@ module _ {r : Record} {l cells scales : ℕ} (k : LayerIn r l cells scales) wher
   pub in-record : l < 128
   in-record = omega (arith, sound-limits r (k .sound) .layers-in, k .layer-in)
 
-  pub held-there : lengthOf r l ≤ r .shape .capacity
-  held-there = held-in r l (k .sound) (k .layer-in)
+  pub len-there : lengthOf r l ≤ r .shape .capacity
+  len-there = len-in r l (k .sound) (k .layer-in)
 
 -- positions p to p + n - 1 of a head in buffers that are the record's; `given` is the size of an output or of a query
 pub record BlockIn (r : Record) (l side h p n given cells scales : ℕ) : Type 0 where
@@ -77,7 +77,7 @@ module _ {r : Record} {l side h p n given cells scales : ℕ} where
       → BlockIn r l side h p n given cells scales
   block-there k v w u e =
       record {
-        rows-in = record { in-limits = in-limits k; layer-in = k .layer-in; side-in = v; head-in = w; span = omega (arith, held-there k) };
+        rows-in = record { in-limits = in-limits k; layer-in = k .layer-in; side-in = v; head-in = w; span = omega (arith, len-there k) };
         size = e;
         sizes = exact-sizes (r .shape) cells scales (k .exact-in);
       }
@@ -110,10 +110,10 @@ pub store-alike : {r r′ : Record} {b b′ : Buffers} → r ≡ r′ → b ≡ 
 store-alike e q = rw (e, q)
 
 -- what an append and a truncation leave of the buffers
-module _ (r : Record) (b : Buffers) (l : ℕ) {done : Bool} {held : ℕ} {x : Buffers} where
+module _ (r : Record) (b : Buffers) (l : ℕ) {done : Bool} {len : ℕ} {x : Buffers} where
   pub append-left : (keys values : List ℕ)
       → lowest (storeRefusals r b ++ appendRefusals (r .shape) l (lengthOf r l) (length keys) (length values)) ≡ 0
-      → held ≡ lengthOf r l → tells done x ≡ appendRowsOf (r .shape) l held keys values b
+      → len ≡ lengthOf r l → tells done x ≡ appendRowsOf (r .shape) l len keys values b
       → x ≡ appended (r .shape) l (lengthOf r l) keys values b
   unfolding appendRowsOf layerFits
   append-left keys values z e q =
@@ -123,11 +123,11 @@ module _ (r : Record) (b : Buffers) (l : ℕ) {done : Bool} {held : ℕ} {x : Bu
       tried-left _ _ t (rw e at q)
 
   pub remove-left : (t : ℕ) → lowest (storeRefusals r b ++ removeRefusals (r .shape) l) ≡ 0
-      → held ≡ lengthOf r l → tells done x ≡ removeRowsOf (r .shape) l held t b
+      → len ≡ lengthOf r l → tells done x ≡ removeRowsOf (r .shape) l len t b
       → x ≡ removed (r .shape) l (lengthOf r l) t b
   unfolding removeRowsOf layerFits
   remove-left t z e q =
       let k = layer-there r l _ _ [] refl z in
       let w : layerFits (r .shape) l (lengthOf r l) b ≡ true =
-      rw (k .sound .shape-in, k .exact-in, lt-ltb _ _ (k .layer-in), le-leb _ _ (held-there k)) in
+      rw (k .sound .shape-in, k .exact-in, lt-ltb _ _ (k .layer-in), le-leb _ _ (len-there k)) in
       tried-left _ _ w (rw e at q)

@@ -11,7 +11,7 @@ use Rattle.shapes.specs.Buffers.{Buffers}
 use Rattle.store.specs.declared.Record.{Record}
 use Rattle.store.specs.declared.Changed.{Changed}
 use Rattle.store.specs.declared.Counted.{Counted}
-use Rattle.store.specs.Calls.{Store, left, changed, counted, openOf, appendOf, truncateOf, advanceOf, cachedLenOf, memoryBytesOf, readOf}
+use Rattle.store.specs.Calls.{Store, changedStore, changed, counted, openOf, appendOf, truncateOf, advanceOf, cachedLenOf, memoryBytesOf, readOf}
 
 same-changed : (a a′ : Changed) → a .reply ≡ a′ .reply → a .after ≡ a′ .after → a ≡ a′
 same-changed a a′ p q =
@@ -35,8 +35,8 @@ pub one-store : (o : Outcome Store) → OneStore o
 one-store o a a′ c c′ w w′ e e′ =
     let s = coincide o (a .reply) (a′ .reply) _ _ e e′ in (
       same-changed a a′ (s .0) (ap (λ (x : Store). x .rec) (s .1)),
-      ap (λ (x : Store). x .lent .cells) (s .1),
-      ap (λ (x : Store). x .lent .scales) (s .1),
+      ap (λ (x : Store). x .memory .cells) (s .1),
+      ap (λ (x : Store). x .memory .scales) (s .1),
     )
 
 one-record : (o : Outcome Record) → OneRecord o

@@ -14,7 +14,7 @@ use Rattle.store.specs.declared.Record.{Record}
 use Rattle.store.specs.Record.{lengthOf, withLength}
 use Rattle.store.specs.Calls.{store, appendOf, truncateOf}
 
-same-left : {A : Type 0} (refusals : List Refusal) (new old : A) → new ≡ old → outcome refusals new old .left ≡ old
+same-left : {A : Type 0} (refusals : List Refusal) (new old : A) → new ≡ old → outcome refusals new old .result ≡ old
 unfolding outcome
 same-left refusals new old e = rw e (alike (eqb (lowest refusals) 0) old)
 
@@ -26,11 +26,11 @@ module _ (r : Record) (b : Buffers) (l : ℕ) where
   nothing : (n : ℕ) (c : Buffers) → n ≡ lengthOf r l → c ≡ b → store (withLength r l n) c ≡ store r b
   nothing n c e q = rw (e, q, same-length r l)
 
-  pub truncate-past : (t : ℕ) → lengthOf r l ≤ t → truncateOf r b l t .left ≡ store r b
+  pub truncate-past : (t : ℕ) → lengthOf r l ≤ t → truncateOf r b l t .result ≡ store r b
   unfolding truncateOf
   truncate-past t h = same-left _ _ _ (nothing _ _ (min-eq-left h) (removed-none (r .shape) l (lengthOf r l) b t h))
 
-  pub append-none : (values : List ℕ) → appendOf r b l [] values .left ≡ store r b
+  pub append-none : (values : List ℕ) → appendOf r b l [] values .result ≡ store r b
   unfolding appendOf
   append-none values =
       same-left _ _ _ (nothing _ _ (rw (no-positions (r .shape), add-zero)) (appended-none (r .shape) l (lengthOf r l) b values))

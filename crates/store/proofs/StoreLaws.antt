@@ -36,9 +36,9 @@ pub sound-limits : (r : Record) → Sound r → Limits (r .shape)
 sound-limits r h = limits-facts (r .shape) (within-limits (r .shape) (h .shape-in))
 
 -- no length of a sound record is over the capacity
-pub held-in : (r : Record) (l : ℕ) → Sound r → l < r .shape .layers → lengthOf r l ≤ r .shape .capacity
+pub len-in : (r : Record) (l : ℕ) → Sound r → l < r .shape .layers → lengthOf r l ≤ r .shape .capacity
 unfolding goodLengths
-held-in r l h b =
+len-in r l h b =
     let few : l < 128 = omega (arith, sound-limits r h .layers-in) in
     let e = ltb-false (mostOf (r .shape) l) (lengthOf r l) (some-none 128 l _ (not-true _ (h .lengths-in)) few) in
     rw (lt-ltb l (r .shape .layers) b) at e
@@ -57,5 +57,5 @@ position-bytes-in s h =
 pub layer-bytes-in : (r : Record) (l : ℕ) → Sound r → l < r .shape .layers → lengthOf r l * positionBytes (r .shape) ≤ 2684354560
 layer-bytes-in r l h b =
     let w = sound-limits r h .capacity-in in
-    let x : lengthOf r l ≤ 4096 = omega (arith, held-in r l h b) in
+    let x : lengthOf r l ≤ 4096 = omega (arith, len-in r l h b) in
     mul-le-mul x (position-bytes-in (r .shape) (h .shape-in) .2)

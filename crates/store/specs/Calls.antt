@@ -19,10 +19,10 @@ use Rattle.store.specs.Record.{seqLen, lengthOf, goodLengths, newRecord,
 -- a record and both buffers
 pub record Store : Type 0 where
   pub rec : Record
-  pub lent : Buffers
+  pub memory : Buffers
 
 abbrev pub store : Record → Buffers → Store
-store r b = record { rec = r; lent = b }
+store r b = record { rec = r; memory = b }
 
 -- the refusals of the two buffers' lengths
 abbrev pub bufferRefusals : Shape → Buffers → List Refusal
@@ -41,7 +41,7 @@ lentRefusals r cells scales = roomRefusals (r .shape) cells scales ++ lengthsRef
 abbrev pub storeRefusals : Record → Buffers → List Refusal
 storeRefusals r b = lentRefusals r (length (b .cells)) (length (b .scales))
 
--- the conditions of replies 4, 5 and 9: a layer and a head that are there, and room for as many keys past `held` positions
+-- the conditions of replies 4, 5 and 9: a layer and a head that are there, and room for as many keys past `len` positions
 abbrev pub hasLayer : Shape → ℕ → Bool
 hasLayer s l = ltb l (s .layers)
 
@@ -49,22 +49,22 @@ abbrev pub hasHead : Shape → ℕ → ℕ → Bool
 hasHead s side h = ltb h (s .heads) && ltb side 2
 
 abbrev pub fitsAfter : Shape → ℕ → ℕ → Bool
-fitsAfter s held keys = leb (held + positions s keys) (s .capacity)
+fitsAfter s len keys = leb (len + positions s keys) (s .capacity)
 
--- the refusals of each call past those of the store, where layer l has `held` positions
+-- the refusals of each call past those of the store, where layer l has `len` positions
 abbrev pub appendRefusals : Shape → ℕ → ℕ → ℕ → ℕ → List Refusal
-appendRefusals s l held keys values =
-    (4 when not (hasLayer s l)) ∷ (7 when not (wholeRows s keys values)) ∷ (9 when not (fitsAfter s held keys)) ∷ []
+appendRefusals s l len keys values =
+    (4 when not (hasLayer s l)) ∷ (7 when not (wholeRows s keys values)) ∷ (9 when not (fitsAfter s len keys)) ∷ []
 
 abbrev pub removeRefusals : Shape → ℕ → List Refusal
 removeRefusals s l = (4 when not (hasLayer s l)) ∷ []
 
 abbrev pub readRefusals : Shape → ℕ → ℕ → ℕ → ℕ → ℕ → ℕ → List Refusal
-readRefusals s l held side h p out =
+readRefusals s l len side h p out =
     (4 when not (hasLayer s l))
     ∷ (5 when not (hasHead s side h))
     ∷ (7 when not (eqb out (headSize s)))
-    ∷ (8 when not (ltb p held))
+    ∷ (8 when not (ltb p len))
     ∷ []
 
 -- open: all zero
@@ -81,17 +81,17 @@ openOf s b = outcome (bufferRefusals s b) (empty s) (store (newRecord noShape) b
 unfoldable pub appendOf : Record → Buffers → ℕ → List ℕ → List ℕ → Outcome Store
 appendOf r b l keys values =
     let s = r .shape in
-    let held = lengthOf r l in
-    outcome (storeRefusals r b ++ appendRefusals s l held (length keys) (length values))
-    (store (withLength r l (held + positions s (length keys))) (appended s l held keys values b)) (store r b)
+    let len = lengthOf r l in
+    outcome (storeRefusals r b ++ appendRefusals s l len (length keys) (length values))
+    (store (withLength r l (len + positions s (length keys))) (appended s l len keys values b)) (store r b)
 
 -- truncate a layer to t: the positions from t on, and its length
 unfoldable pub truncateOf : Record → Buffers → ℕ → ℕ → Outcome Store
 truncateOf r b l t =
     let s = r .shape in
-    let held = lengthOf r l in
+    let len = lengthOf r l in
     outcome (storeRefusals r b ++ removeRefusals s l)
-    (store (withLength r l (min held t)) (removed s l held t b))
+    (store (withLength r l (min len t)) (removed s l len t b))
     (store r b)
 
 -- advance: the sequence number alone
@@ -118,8 +118,8 @@ readOf r b l side h p out =
     outcome (storeRefusals r b ++ readRefusals (r .shape) l (lengthOf r l) side h p (length out)) (rowAt (r .shape) l side h p b) out
 
 -- what a call's answer and the lent memory say together
-abbrev pub left : Changed → List ℕ → List ℕ → Outcome Store
-left a cells scales = answered (a .reply) (store (a .after) (buffers cells scales))
+abbrev pub changedStore : Changed → List ℕ → List ℕ → Outcome Store
+changedStore a cells scales = answered (a .reply) (store (a .after) (buffers cells scales))
 
 abbrev pub changed : Changed → Outcome Record
 changed a = answered (a .reply) (a .after)

@@ -23,7 +23,7 @@ ghost use Rattle.replies.specs.Outcome.{lowest, answered};
 ghost use Rattle.shapes.specs.Shape.{within};
 ghost use Rattle.shapes.specs.Buffers.{buffers};
 ghost use Rattle.store.specs.Record.{lengthOf, mostOf, goodLengths, newRecord, withLength, positionBytes, byteCount};
-ghost use Rattle.store.specs.Calls.{noShape, left, changed, counted, recordRefusals, lentRefusals};
+ghost use Rattle.store.specs.Calls.{noShape, changedStore, changed, counted, recordRefusals, lentRefusals};
 ghost use Rattle.store.specs.Calls.{appendRefusals, removeRefusals, readRefusals, sequenceRefusal};
 ghost use Rattle.store.specs.Calls.{openOf, appendOf, truncateOf, advanceOf, cachedLenOf, memoryBytesOf, readOf};
 
@@ -48,7 +48,7 @@ pub struct Counted {
 
 // Makes an empty store in buffers of exactly the shape's need.
 pub fn open(shape: Shape, cells: &mut [u8], scales: &mut [u32]) -> Changed
-    ensures { λ r. ⌜ left r (now (cells .exit)) (now (scales .exit)) ≡ openOf shape (buffers (now (cells .entry)) (now (scales .entry))) ⌝ }
+    ensures { λ r. ⌜ changedStore r (now (cells .exit)) (now (scales .exit)) ≡ openOf shape (buffers (now (cells .entry)) (now (scales .entry))) ⌝ }
 {
     let reply = room_reply(shape, cells.len(), scales.len());
     if number(reply) != 0 {
@@ -86,7 +86,7 @@ pub fn append(
 ) -> Changed
     ensures { λ r.
         ⌜
-        left r (now (cells .exit)) (now (scales .exit))
+        changedStore r (now (cells .exit)) (now (scales .exit))
         ≡ appendOf «record» (buffers (now (cells .entry)) (now (scales .entry))) layer (now (keys .entry)) (now (values .entry))
         ⌝ }
 {
@@ -97,10 +97,10 @@ pub fn append(
             after: record,
         };
     }
-    let held = length_of(record, layer);
+    let len = length_of(record, layer);
     let n = keys.len() / (record.shape.heads as usize * record.shape.head_size as usize);
-    let after = with_length(record, layer, held + n as u32);
-    append_rows(record.shape, layer, held, keys, values, cells, scales);
+    let after = with_length(record, layer, len + n as u32);
+    append_rows(record.shape, layer, len, keys, values, cells, scales);
     Changed { reply, after }
 }
 
@@ -114,7 +114,7 @@ pub fn truncate_to(
 ) -> Changed
     ensures { λ r.
         ⌜
-        left r (now (cells .exit)) (now (scales .exit))
+        changedStore r (now (cells .exit)) (now (scales .exit))
         ≡ truncateOf «record» (buffers (now (cells .entry)) (now (scales .entry))) layer t
         ⌝ }
 {
@@ -125,9 +125,9 @@ pub fn truncate_to(
             after: record,
         };
     }
-    let held = length_of(record, layer);
-    let after = with_length(record, layer, smaller(held, t));
-    remove_rows(record.shape, layer, held, t, cells, scales);
+    let len = length_of(record, layer);
+    let after = with_length(record, layer, smaller(len, t));
+    remove_rows(record.shape, layer, len, t, cells, scales);
     Changed { reply, after }
 }
 

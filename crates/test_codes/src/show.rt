@@ -4,8 +4,8 @@ use numbers::codes;
 use numbers::scales;
 use numbers::words;
 
-// What is told of each number.
-enum Told {
+// What is shown of each number.
+enum Shown {
     Code8,
     Read8,
     Half,
@@ -33,9 +33,9 @@ fn int8(run: &[u32]) {
     io::write_all(STDOUT_FILENO, b"int8 scale");
     field(words::f32_to_word(scale), 8);
     io::write_all(STDOUT_FILENO, b" codes");
-    fields(run, scale, Told::Code8);
+    fields(run, scale, Shown::Code8);
     io::write_all(STDOUT_FILENO, b" reads");
-    fields(run, scale, Told::Read8);
+    fields(run, scale, Shown::Read8);
     io::write_all(STDOUT_FILENO, b"\n");
 }
 
@@ -59,23 +59,23 @@ fn group(run: &[u32], scale: f32) {
     io::write_all(STDOUT_FILENO, b" bytes");
     byte_fields(&bytes);
     io::write_all(STDOUT_FILENO, b" reads");
-    fields(&back, scale, Told::Word);
+    fields(&back, scale, Shown::Word);
     io::write_all(STDOUT_FILENO, b"\n");
 }
 
 fn bf16(run: &[u32]) {
     io::write_all(STDOUT_FILENO, b"bf16 halves");
-    fields(run, 1.0, Told::Half);
+    fields(run, 1.0, Shown::Half);
     io::write_all(STDOUT_FILENO, b" reads");
-    fields(run, 1.0, Told::ReadHalf);
+    fields(run, 1.0, Shown::ReadHalf);
     io::write_all(STDOUT_FILENO, b"\n");
 }
 
 // One thing of each number of a run.
-fn fields(run: &[u32], scale: f32, told: Told) {
+fn fields(run: &[u32], scale: f32, shown: Shown) {
     let mut i = 0;
     while i < run.len() {
-        tell(run[i], scale, told);
+        tell(run[i], scale, shown);
         i += 1;
     }
 }
@@ -88,16 +88,16 @@ fn byte_fields(bytes: &[u8]) {
     }
 }
 
-fn tell(x: u32, scale: f32, told: Told) {
-    match told {
-        Told::Code8 => field(codes::quantize_i8(x, scale) as u32, 2),
-        Told::Read8 => field(
+fn tell(x: u32, scale: f32, shown: Shown) {
+    match shown {
+        Shown::Code8 => field(codes::quantize_i8(x, scale) as u32, 2),
+        Shown::Read8 => field(
             words::f32_to_word(codes::dequantize_i8(codes::quantize_i8(x, scale), scale)),
             8,
         ),
-        Told::Half => field(words::f32_to_bf16(x) as u32, 4),
-        Told::ReadHalf => field(words::bf16_to_f32(words::f32_to_bf16(x)), 8),
-        Told::Word => field(x, 8),
+        Shown::Half => field(words::f32_to_bf16(x) as u32, 4),
+        Shown::ReadHalf => field(words::bf16_to_f32(words::f32_to_bf16(x)), 8),
+        Shown::Word => field(x, 8),
     }
 }
 

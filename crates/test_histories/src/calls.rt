@@ -3,20 +3,20 @@ use crate::fresh;
 use crate::show;
 ghost use Prim.Native.Nat.{_≤_, _<_};
 
-// One line after the other. `lent` has the cell bytes and scale words that are lent, `kept` and `counts` the survivors.
+// One line after the other. `lent` has the cell bytes and scale words that are lent, `survivors` and `counts` the surviving rows.
 pub(crate) fn play(
     text: &[u8],
     rec: &mut [u32; 134],
     lent: &mut [u32; 2],
     cells: &mut [u8],
     scales: &mut [u32],
-    kept: &mut [u32; 8192],
+    survivors: &mut [u32; 8192],
     counts: &mut [u32; 9],
 ) {
     let mut at = 0;
     while at < text.len() {
         let end = at + test_lines::line_length(text, at);
-        step(&text[at..end], rec, lent, cells, scales, kept, counts);
+        step(&text[at..end], rec, lent, cells, scales, survivors, counts);
         at = end + 1;
     }
 }
@@ -27,7 +27,7 @@ fn step(
     lent: &mut [u32; 2],
     cells: &mut [u8],
     scales: &mut [u32],
-    kept: &mut [u32; 8192],
+    survivors: &mut [u32; 8192],
     counts: &mut [u32; 9],
 ) {
     let kind = word(line, 0);
@@ -46,7 +46,7 @@ fn step(
                 rec,
                 &mut cells[0..a],
                 &mut scales[0..b],
-                kept,
+                survivors,
                 counts,
             );
         }
@@ -89,18 +89,18 @@ fn call(
     rec: &mut [u32; 134],
     cells: &mut [u8],
     scales: &mut [u32],
-    kept: &mut [u32; 8192],
+    survivors: &mut [u32; 8192],
     counts: &mut [u32; 9],
 ) {
     match kind {
         5 | 6 => count(line, kind, rec),
         7 => read(line, rec, cells, scales),
         12 | 13 => compute(line, kind, rec, cells, scales),
-        14 => fresh::compare(rec, cells, scales, kept, counts),
+        14 => fresh::compare(rec, cells, scales, survivors, counts),
         _ => {
             let reply = change(line, kind, rec, cells, scales);
             if reply == 0 {
-                fresh::follow(line, kind, rec, kept, counts);
+                fresh::follow(line, kind, rec, survivors, counts);
             }
             show::reply(reply);
             show::line_end();

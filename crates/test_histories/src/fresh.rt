@@ -1,5 +1,5 @@
 // The store against a fresh one. The survivors are the keys and values of accepted calls that no later one removed;
-// the keys of layer l are kept from word 1024 * l on, its values from 512 words later on.
+// the keys of layer l stand from word 1024 * l on, its values from 512 words later on.
 use crate::calls::least;
 use crate::calls::smaller;
 use crate::calls::word;
@@ -9,34 +9,34 @@ ghost use Prim.Native.Nat.{_+_, _≤_};
 ghost use lib.ListN.{length};
 
 // What an accepted call makes of the survivors. `counts` has how many numbers a side each layer has, and last
-// whether some could not be kept.
+// whether some did not fit.
 pub(crate) fn follow(
     line: &[u8],
     kind: u32,
     rec: &[u32; 134],
-    kept: &mut [u32; 8192],
+    survivors: &mut [u32; 8192],
     counts: &mut [u32; 9],
 ) {
     match kind {
         1 => *counts = [0u32; 9],
-        2 => append(line, kept, counts),
+        2 => append(line, survivors, counts),
         3 => truncate(line, rec, counts),
         _ => {}
     }
 }
 
 // An append's keys and values come after those of its layer.
-fn append(line: &[u8], kept: &mut [u32; 8192], counts: &mut [u32; 9]) {
+fn append(line: &[u8], survivors: &mut [u32; 8192], counts: &mut [u32; 9]) {
     let layer = word(line, 1);
     let n = word(line, 2);
     if layer < 8 {
-        let held = counts[layer as usize];
-        if held <= 512 {
-            if n <= 512 - held {
-                let keys = 1024 * layer as usize + held as usize;
-                keep(line, 3, n as usize, kept, keys);
-                keep(line, 3 + n as usize, n as usize, kept, keys + 512);
-                counts[layer as usize] = held + n;
+        let count = counts[layer as usize];
+        if count <= 512 {
+            if n <= 512 - count {
+                let keys = 1024 * layer as usize + count as usize;
+                keep(line, 3, n as usize, survivors, keys);
+                keep(line, 3 + n as usize, n as usize, survivors, keys + 512);
+                counts[layer as usize] = count + n;
                 return;
             }
         }
@@ -45,12 +45,12 @@ fn append(line: &[u8], kept: &mut [u32; 8192], counts: &mut [u32; 9]) {
 }
 
 // Keeps `n` words of a line from word `k` on.
-fn keep(line: &[u8], k: usize, n: usize, kept: &mut [u32; 8192], at: usize)
+fn keep(line: &[u8], k: usize, n: usize, survivors: &mut [u32; 8192], at: usize)
     requires { ⌜ (k + n ≤ 2000) × (at + n ≤ 8192) ⌝ }
 {
     let mut i = 0;
     while i < n {
-        kept[at + i] = word(line, k + i);
+        survivors[at + i] = word(line, k + i);
         i += 1;
     }
 }
@@ -77,7 +77,7 @@ pub(crate) fn compare(
     rec: &[u32; 134],
     cells: &[u8],
     scales: &[u32],
-    kept: &[u32; 8192],
+    survivors: &[u32; 8192],
     counts: &[u32; 9],
 ) {
     if counts[8] != 0 {
@@ -91,7 +91,7 @@ pub(crate) fn compare(
         rec,
         cells,
         scales,
-        kept,
+        survivors,
         counts,
         &mut fresh,
         &mut fresh_cells,
@@ -104,7 +104,7 @@ fn compare_in(
     rec: &[u32; 134],
     cells: &[u8],
     scales: &[u32],
-    kept: &[u32; 8192],
+    survivors: &[u32; 8192],
     counts: &[u32; 9],
     fresh: &mut [u32; 134],
     fresh_cells: &mut [u8],
@@ -115,7 +115,7 @@ fn compare_in(
     show::text(b"fresh replies");
     fill(
         rec,
-        kept,
+        survivors,
         counts,
         fresh,
         &mut fresh_cells[0..a],
@@ -154,7 +154,7 @@ fn tell(
 // Opens a store of the record's shape, and gives each layer its survivors in one call.
 fn fill(
     rec: &[u32; 134],
-    kept: &[u32; 8192],
+    survivors: &[u32; 8192],
     counts: &[u32; 9],
     fresh: &mut [u32; 134],
     cells: &mut [u8],
@@ -164,20 +164,20 @@ fn fill(
     let layers = smaller(rec[1], 8);
     let mut layer = 0;
     while layer < layers {
-        show::decimal(append_survivors(layer, kept, counts[layer], fresh, cells, scales));
+        show::decimal(append_survivors(layer, survivors, counts[layer], fresh, cells, scales));
         layer += 1;
     }
 }
 
 fn append_survivors(
     layer: usize,
-    kept: &[u32],
+    survivors: &[u32],
     count: u32,
     fresh: &mut [u32; 134],
     cells: &mut [u8],
     scales: &mut [u32],
 ) -> u32
-    requires { ⌜ (layer ≤ 7) × (length (now kept) ≡ 8192) ⌝ }
+    requires { ⌜ (layer ≤ 7) × (length (now survivors) ≡ 8192) ⌝ }
 {
     let n = smaller(count, 512);
     let keys = 1024 * layer;
@@ -187,8 +187,8 @@ fn append_survivors(
         cells,
         scales,
         layer as u32,
-        &kept[keys..keys + n],
-        &kept[values..values + n],
+        &survivors[keys..keys + n],
+        &survivors[values..values + n],
     )
 }
 

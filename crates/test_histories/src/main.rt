@@ -16,7 +16,7 @@ fn start(text: &[u8]) {
     let mut cells = [0xA5u8; 2048];
     let mut scales = [0xA5A5_A5A5u32; 256];
     let mut lent = [0u32; 2];
-    let mut kept = [0u32; 8192];
+    let mut survivors = [0u32; 8192];
     let mut counts = [0u32; 9];
     calls::play(
         text,
@@ -24,7 +24,7 @@ fn start(text: &[u8]) {
         &mut lent,
         &mut cells,
         &mut scales,
-        &mut kept,
+        &mut survivors,
         &mut counts,
     );
 }

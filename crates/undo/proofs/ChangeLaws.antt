@@ -51,21 +51,21 @@ module _ {r : Record} {b : Buffers} {of : ℕ → Rows} (x : Renders (r .shape) 
       (appended (r .shape) l (lengthOf r l) keys values b))
       (λ m. kept (r .shape) m (of m) (append l keys values))
   append-done l keys values w q v =
-      let held = lengthOf r l in
-      layer-changed l _ (λ m. of m ++ rowsOf (r .shape) keys values) _ w (append-own b (in-room x w) held keys values q v (x .layer l))
-      (λ m d. append-others b (in-room x w) held keys values q v d (x .layer m))
-      (append-sizes b (in-room x w) held keys values q v)
+      let len = lengthOf r l in
+      layer-changed l _ (λ m. of m ++ rowsOf (r .shape) keys values) _ w (append-own b (in-room x w) len keys values q v (x .layer l))
+      (λ m d. append-others b (in-room x w) len keys values q v d (x .layer m))
+      (append-sizes b (in-room x w) len keys values q v)
 
   pub truncate-done : (l n : ℕ) → l < r .shape .layers
       → Renders (r .shape) (store (withLength r l (min (lengthOf r l) n)) (removed (r .shape) l (lengthOf r l) n b))
       (λ m. kept (r .shape) m (of m) (truncate l n))
   truncate-done l n w =
-      let held = lengthOf r l in
-      let v : held ≤ r .shape .capacity = rw (lt-ltb l (r .shape .layers) w) at (x .layer l .span) in
+      let len = lengthOf r l in
+      let v : len ≤ r .shape .capacity = rw (lt-ltb l (r .shape .layers) w) at (x .layer l .span) in
       layer-changed l _ (λ m. take n (of m)) _ w
-      (truncate-own b (in-room x w) held n v (x .layer l))
-      (λ m d. truncate-others b (in-room x w) held n v d (x .layer m))
-      (truncate-sizes b (in-room x w) held n v)
+      (truncate-own b (in-room x w) len n v (x .layer l))
+      (λ m d. truncate-others b (in-room x w) len n v d (x .layer m))
+      (truncate-sizes b (in-room x w) len n v)
 
   -- the sequence number is nothing of it
   pub advance-done : (n : ℕ) → Renders (r .shape) (store (withSeqLen r n) b) of

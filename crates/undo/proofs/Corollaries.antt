@@ -22,7 +22,7 @@ use Rattle.undo.proofs.Undo.{after-renders, undo-is-real}
 module _ (s : Shape) (b : Buffers) (opened : openOf s b .reply ≡ 0) (calls : List Call) where
   -- a row that was cut leaves no byte and no scale behind
   pub cut-rows-leave-nothing : {l side h p : ℕ} → Place s l side h p → lengthOf (after s b calls .rec) l ≤ p
-      → (cellsAt s l side h p (after s b calls .lent) ≡ replicate (bytesOf s) 0) × (scalesAt s l side h p (after s b calls .lent) ≡ replicate (wordsOf s) 0)
+      → (cellsAt s l side h p (after s b calls .memory) ≡ replicate (bytesOf s) 0) × (scalesAt s l side h p (after s b calls .memory) ≡ replicate (wordsOf s) 0)
   cut-rows-leave-nothing {l} {side} {h} {p} k w =
       let x = after-renders s b opened calls .layer l in
       let d = le-ltb p (lengthOf (after s b calls .rec) l) w in
@@ -48,8 +48,8 @@ module _ (s : Shape) (b : Buffers) (opened : openOf s b .reply ≡ 0) (calls : L
     pub same-lengths : (l : ℕ) → Alike (λ t. lengthOf (t .rec) l)
     same-lengths l = withdrawn-rows-never-seen _ (λ t. lengthOf (t .rec) l)
 
-    pub same-buffers : Alike (λ t. t .lent)
-    same-buffers = withdrawn-rows-never-seen _ (λ t. t .lent)
+    pub same-buffers : Alike (λ t. t .memory)
+    same-buffers = withdrawn-rows-never-seen _ (λ t. t .memory)
 
     -- and so do the calls that read
     pub same-length : (l : ℕ) → Alike (λ t. cachedLenOf (t .rec) l)
@@ -60,14 +60,14 @@ module _ (s : Shape) (b : Buffers) (opened : openOf s b .reply ≡ 0) (calls : L
     unfolding memoryBytesOf goodLengths byteCount
     same-bytes = withdrawn-rows-never-seen _ (λ t. memoryBytesOf (t .rec))
 
-    pub same-row : (l side h p : ℕ) (out : List ℕ) → Alike (λ t. readOf (t .rec) (t .lent) l side h p out)
+    pub same-row : (l side h p : ℕ) (out : List ℕ) → Alike (λ t. readOf (t .rec) (t .memory) l side h p out)
     unfolding readOf goodLengths
-    same-row l side h p out = withdrawn-rows-never-seen _ (λ t. readOf (t .rec) (t .lent) l side h p out)
+    same-row l side h p out = withdrawn-rows-never-seen _ (λ t. readOf (t .rec) (t .memory) l side h p out)
 
-    pub same-scores : (l h : ℕ) (query : List Float) (x : Float) (out : List ℕ) → Alike (λ t. headScoresOf (t .rec) (t .lent) l h query x out)
+    pub same-scores : (l h : ℕ) (query : List Float) (x : Float) (out : List ℕ) → Alike (λ t. headScoresOf (t .rec) (t .memory) l h query x out)
     unfolding headScoresOf goodLengths
-    same-scores l h query x out = withdrawn-rows-never-seen _ (λ t. headScoresOf (t .rec) (t .lent) l h query x out)
+    same-scores l h query x out = withdrawn-rows-never-seen _ (λ t. headScoresOf (t .rec) (t .memory) l h query x out)
 
-    pub same-sums : (l h : ℕ) (weights : List Float) (out : List ℕ) → Alike (λ t. headSumsOf (t .rec) (t .lent) l h weights out)
+    pub same-sums : (l h : ℕ) (weights : List Float) (out : List ℕ) → Alike (λ t. headSumsOf (t .rec) (t .memory) l h weights out)
     unfolding headSumsOf goodLengths
-    same-sums l h weights out = withdrawn-rows-never-seen _ (λ t. headSumsOf (t .rec) (t .lent) l h weights out)
+    same-sums l h weights out = withdrawn-rows-never-seen _ (λ t. headSumsOf (t .rec) (t .memory) l h weights out)

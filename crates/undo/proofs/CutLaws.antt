@@ -21,33 +21,33 @@ use Rattle.undo.proofs.RowLaws.{holds-cut}
 use Rattle.undo.proofs.NumberLaws.{whole-first, first-rows}
 use Rattle.undo.proofs.LayerLaws.{HasRows, Sizes, InRoom, has-still}
 
--- layer m, which has `held` positions, truncated to t: positions are removed where t is below `held`
-module _ {s : Shape} {m : ℕ} (b : Buffers) (k : InRoom s m b) (held t : ℕ) (w : held ≤ s .capacity) where
-  cut-or-not : (P : Buffers → Type 0) → Dec (t < held) → (t < held → P (removed s m held t b)) → (held ≤ t → P b) → P (removed s m held t b)
+-- layer m, which has `len` positions, truncated to t: positions are removed where t is below `len`
+module _ {s : Shape} {m : ℕ} (b : Buffers) (k : InRoom s m b) (len t : ℕ) (w : len ≤ s .capacity) where
+  cut-or-not : (P : Buffers → Type 0) → Dec (t < len) → (t < len → P (removed s m len t b)) → (len ≤ t → P b) → P (removed s m len t b)
   cut-or-not P (yes u) x y = x u
-  cut-or-not P (no u) x y = subst P (sym (removed-none s m held b t (omega arith))) (y (omega arith))
+  cut-or-not P (no u) x y = subst P (sym (removed-none s m len b t (omega arith))) (y (omega arith))
 
-  cut : (a : ℕ) {buf : List ℕ} → t < held → length buf ≡ total a s → Written a s m t (held - t) (zeros a) buf
+  cut : (a : ℕ) {buf : List ℕ} → t < len → length buf ≡ total a s → Written a s m t (len - t) (zeros a) buf
   cut a u e = record { layer = k .layer; span = omega arith; sized = λ side x h y i z. length-replicate a 0; whole = e }
 
-  cut-sizes : t < held → Sizes s (removed s m held t b)
+  cut-sizes : t < len → Sizes s (removed s m len t b)
   unfolding removed
   cut-sizes u = (written-size (cut (bytesOf s) u (k .sizes .0)), written-size (cut (wordsOf s) u (k .sizes .1)))
 
-  pub truncate-sizes : Sizes s (removed s m held t b)
-  truncate-sizes = cut-or-not (Sizes s) (decLt t held) cut-sizes (λ h. k .sizes)
+  pub truncate-sizes : Sizes s (removed s m len t b)
+  truncate-sizes = cut-or-not (Sizes s) (decLt t len) cut-sizes (λ h. k .sizes)
 
-  cut-others : t < held → {l n : ℕ} {r : Rows} → l ≢ m → HasRows s l n r b → HasRows s l n r (removed s m held t b)
+  cut-others : t < len → {l n : ℕ} {r : Rows} → l ≢ m → HasRows s l n r b → HasRows s l n r (removed s m len t b)
   unfolding removed
   cut-others u d x = has-still b d x (cut (bytesOf s) u (k .sizes .0)) (cut (wordsOf s) u (k .sizes .1))
 
-  pub truncate-others : {l n : ℕ} {r : Rows} → l ≢ m → HasRows s l n r b → HasRows s l n r (removed s m held t b)
-  truncate-others {l} {n} {r} d x = cut-or-not (HasRows s l n r) (decLt t held) (λ u. cut-others u d x) (λ h. x)
+  pub truncate-others : {l n : ℕ} {r : Rows} → l ≢ m → HasRows s l n r b → HasRows s l n r (removed s m len t b)
+  truncate-others {l} {n} {r} d x = cut-or-not (HasRows s l n r) (decLt t len) (λ u. cut-others u d x) (λ h. x)
 
-  cut-own : t < held → {r : Rows} → HasRows s m held r b → HasRows s m (min held t) (take t r) (removed s m held t b)
+  cut-own : t < len → {r : Rows} → HasRows s m len r b → HasRows s m (min len t) (take t r) (removed s m len t b)
   unfolding removed
   cut-own u {r} x =
-      let e : min held t ≡ t = omega arith in
+      let e : min len t ≡ t = omega arith in
       rw e
       (record {
         count = length-take-le t r (omega (arith, x .count));
@@ -57,9 +57,9 @@ module _ {s : Shape} {m : ℕ} (b : Buffers) (k : InRoom s m b) (held t : ℕ) (
         scales-held = holds-cut (x .scales-held) (cut (wordsOf s) u (k .sizes .1)) u (first-rows (rowScales (s .format)) s r t);
       })
 
-  pub truncate-own : {r : Rows} → HasRows s m held r b → HasRows s m (min held t) (take t r) (removed s m held t b)
+  pub truncate-own : {r : Rows} → HasRows s m len r b → HasRows s m (min len t) (take t r) (removed s m len t b)
   truncate-own {r} x =
-      cut-or-not (HasRows s m (min held t) (take t r)) (decLt t held) (λ u. cut-own u x)
+      cut-or-not (HasRows s m (min len t) (take t r)) (decLt t len) (λ u. cut-own u x)
       (λ h.
-      let e : min held t ≡ held = omega arith in
+      let e : min len t ≡ len = omega arith in
       rw (e, take-all t r (omega (arith, x .count))) x)

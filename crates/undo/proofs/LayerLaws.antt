@@ -58,8 +58,8 @@ has-still b d x c w =
 rows-added : (enc : List ℕ → List ℕ) {a : ℕ} {s : Shape} {l n : ℕ} {r : Rows} {b : Buffers} {buf : List ℕ} (keys values : List ℕ)
     → let i = positions s (length keys) in HasRows s l n r b → Holds a s l n (encoded enc s r) buf → Written a s l n i (given enc s keys values) buf
     → Holds a s l (n + i) (encoded enc s (r ++ rowsOf s keys values)) (written a s l n i (given enc s keys values) buf)
-rows-added enc {s = s} {n = n} {r = r} keys values x held w =
-    holds-added held w (old-rows enc s r n (x .count) keys values) (new-rows enc s r n (x .count) keys values)
+rows-added enc {s = s} {n = n} {r = r} keys values x len w =
+    holds-added len w (old-rows enc s r n (x .count) keys values) (new-rows enc s r n (x .count) keys values)
 
 -- both buffers have the sizes that the shape needs
 abbrev pub Sizes : Shape → Buffers → Type 0
@@ -71,16 +71,16 @@ pub record InRoom (s : Shape) (l : ℕ) (b : Buffers) : Type 0 where
   pub layer : l < s .layers
   pub sizes : Sizes s b
 
--- rows appended to layer m, which has `held` positions
-module _ {s : Shape} {m : ℕ} (b : Buffers) (k : InRoom s m b) (held : ℕ) (keys values : List ℕ)
-    (whole : wholeRows s (length keys) (length values) ≡ true) (room : held + positions s (length keys) ≤ s .capacity) where
+-- rows appended to layer m, which has `len` positions
+module _ {s : Shape} {m : ℕ} (b : Buffers) (k : InRoom s m b) (len : ℕ) (keys values : List ℕ)
+    (whole : wholeRows s (length keys) (length values) ≡ true) (room : len + positions s (length keys) ≤ s .capacity) where
   keys-whole : length keys ≡ positions s (length keys) * width s
   keys-whole = whole-rows s (length keys) (length values) whole .0
 
   values-whole : length values ≡ positions s (length keys) * width s
   values-whole = whole-rows s (length keys) (length values) whole .1
 
-  new-cells : Written (bytesOf s) s m held (positions s (length keys)) (given (rowCells (s .format)) s keys values) (b .cells)
+  new-cells : Written (bytesOf s) s m len (positions s (length keys)) (given (rowCells (s .format)) s keys values) (b .cells)
   new-cells =
       record {
         layer = k .layer;
@@ -89,7 +89,7 @@ module _ {s : Shape} {m : ℕ} (b : Buffers) (k : InRoom s m b) (held : ℕ) (ke
         whole = k .sizes .0;
       }
 
-  new-scales : Written (wordsOf s) s m held (positions s (length keys)) (given (rowScales (s .format)) s keys values) (b .scales)
+  new-scales : Written (wordsOf s) s m len (positions s (length keys)) (given (rowScales (s .format)) s keys values) (b .scales)
   new-scales =
       record {
         layer = k .layer;
@@ -98,16 +98,16 @@ module _ {s : Shape} {m : ℕ} (b : Buffers) (k : InRoom s m b) (held : ℕ) (ke
         whole = k .sizes .1;
       }
 
-  pub append-sizes : Sizes s (appended s m held keys values b)
+  pub append-sizes : Sizes s (appended s m len keys values b)
   unfolding appended
   append-sizes = (written-size new-cells, written-size new-scales)
 
-  pub append-others : {l n : ℕ} {r : Rows} → l ≢ m → HasRows s l n r b → HasRows s l n r (appended s m held keys values b)
+  pub append-others : {l n : ℕ} {r : Rows} → l ≢ m → HasRows s l n r b → HasRows s l n r (appended s m len keys values b)
   unfolding appended
   append-others d x = has-still b d x new-cells new-scales
 
-  pub append-own : {r : Rows} → HasRows s m held r b
-      → HasRows s m (held + positions s (length keys)) (r ++ rowsOf s keys values) (appended s m held keys values b)
+  pub append-own : {r : Rows} → HasRows s m len r b
+      → HasRows s m (len + positions s (length keys)) (r ++ rowsOf s keys values) (appended s m len keys values b)
   unfolding appended
   append-own {r} x =
       record {

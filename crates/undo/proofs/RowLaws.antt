@@ -28,10 +28,10 @@ pub holds-none : (b : ℕ) (s : Shape) (l : ℕ) (rows : ℕ → ℕ → ℕ →
 holds-none b s l rows =
     record { row = λ side h p k. rw (le-ltb p 0 (omega arith)) (part-replicate (place b s l side h p) b (total b s) 0 (row-in b k)) }
 
-module _ {b : ℕ} {s : Shape} {l n : ℕ} {rows : ℕ → ℕ → ℕ → List ℕ} {buf : List ℕ} (held : Holds b s l n rows buf) where
+module _ {b : ℕ} {s : Shape} {l n : ℕ} {rows : ℕ → ℕ → ℕ → List ℕ} {buf : List ℕ} (len : Holds b s l n rows buf) where
   -- after a write to another layer
   pub holds-still : {m q k : ℕ} {new : ℕ → ℕ → ℕ → List ℕ} → l ≢ m → Written b s m q k new buf → Holds b s l n rows (written b s m q k new buf)
-  holds-still d w = record { row = λ side h p u. written-elsewhere b u w (inl d) ∙ held .row side h p u }
+  holds-still d w = record { row = λ side h p u. written-elsewhere b u w (inl d) ∙ len .row side h p u }
 
   -- after k rows written at their end: all is the old rows and then the new ones
   module _ {k : ℕ} {new all : ℕ → ℕ → ℕ → List ℕ} (w : Written b s l n k new buf)
@@ -41,14 +41,14 @@ module _ {b : ℕ} {s : Shape} {l n : ℕ} {rows : ℕ → ℕ → ℕ → List 
         → part (place b s l side h p) b (written b s l n k new buf) ≡ cond (ltb p (n + k)) (all side h p) (replicate b 0)
     added-at side h p u (yes x) d =
         written-elsewhere b u w (inr (inl x))
-        ∙ held .row side h p u
+        ∙ len .row side h p u
         ∙ rw (lt-ltb p n x, lt-ltb p (n + k) (omega arith), old-rows side h p (u .head-in) x)
     added-at side h p u (no x) (yes y) =
         let e : n + (p - n) ≡ p = omega arith in
         written-there b u w (omega arith) y ∙ rw (lt-ltb p (n + k) y) (sym (new-rows side h (p - n) (u .head-in) (omega arith)) ∙ rw e)
     added-at side h p u (no x) (no y) =
         written-elsewhere b u w (inr (inr (omega arith)))
-        ∙ held .row side h p u
+        ∙ len .row side h p u
         ∙ rw (le-ltb p n (omega arith), le-ltb p (n + k) (omega arith))
 
     pub holds-added : Holds b s l (n + k) all (written b s l n k new buf)
@@ -61,12 +61,12 @@ module _ {b : ℕ} {s : Shape} {l n : ℕ} {rows : ℕ → ℕ → ℕ → List 
         → part (place b s l side h p) b (written b s l t (n - t) (zeros b) buf) ≡ cond (ltb p t) (first side h p) (replicate b 0)
     cut-at side h p u (yes x) d =
         written-elsewhere b u w (inr (inl x))
-        ∙ held .row side h p u
+        ∙ len .row side h p u
         ∙ rw (lt-ltb p n (omega arith), lt-ltb p t x, first-rows side h p (u .head-in) x)
     cut-at side h p u (no x) (yes y) = written-there b u w (omega arith) (omega arith) ∙ rw (le-ltb p t (omega arith))
     cut-at side h p u (no x) (no y) =
         written-elsewhere b u w (inr (inr (omega arith)))
-        ∙ held .row side h p u
+        ∙ len .row side h p u
         ∙ rw (le-ltb p n (omega arith), le-ltb p t (omega arith))
 
     pub holds-cut : Holds b s l t first (written b s l t (n - t) (zeros b) buf)

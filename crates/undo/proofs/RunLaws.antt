@@ -35,14 +35,14 @@ outcome-renders refusals up x y = either (eqb (lowest refusals) 0) (λ h. x (low
 
 -- after call c: the rows that it keeps where it is accepted, and all rows where it is refused
 abbrev Steps : Shape → Store → (ℕ → Rows) → Call → Type 0
-Steps s t of c = Renders s (does c t .left) (λ l. cond (eqb (does c t .reply) 0) (kept s l (of l) c) (of l))
+Steps s t of c = Renders s (does c t .result) (λ l. cond (eqb (does c t .reply) 0) (kept s l (of l) c) (of l))
 
 module _ {r : Record} {b : Buffers} {of : ℕ → Rows} (x : Renders (r .shape) (store r b) of) where
   append-step : (l : ℕ) (keys values : List ℕ) → Steps (r .shape) (store r b) of (append l keys values)
   unfolding does appendOf outcome
   append-step l keys values =
-      let held = lengthOf r l in
-      outcome-renders (storeRefusals r b ++ appendRefusals (r .shape) l held (length keys) (length values)) refl
+      let len = lengthOf r l in
+      outcome-renders (storeRefusals r b ++ appendRefusals (r .shape) l len (length keys) (length values)) refl
       (λ z.
       let n = z .1 .1 .1 in
       append-done x l keys values (ltb-true l (r .shape .layers) (not-false _ (n .0))) (not-false _ (n .1 .0)) (leb-true _ _ (not-false _ (n .1 .1 .0))))
@@ -74,7 +74,7 @@ module _ {r : Record} {b : Buffers} {of : ℕ → Rows} (x : Renders (r .shape) 
 
 -- one call
 pub step : {s : Shape} {t : Store} {of : ℕ → Rows} (c : Call) → Renders s t of → Steps s t of c
-step {s} {t} {of} c x = subst (λ (s : Shape). Renders s t of → Steps s t of c) (x .shape-is) (λ y. step-here {r = t .rec} {b = t .lent} y c) x
+step {s} {t} {of} c x = subst (λ (s : Shape). Renders s t of → Steps s t of c) (x .shape-is) (λ y. step-here {r = t .rec} {b = t .memory} y c) x
 
 -- a run of calls
 kept-next : (s : Shape) (l : ℕ) (r : Rows) (c : Call) (others : List Call) (flag : Bool)
@@ -88,4 +88,4 @@ pub run-renders : {s : Shape} {t : Store} {of : ℕ → Rows} (calls : List Call
 unfolding run accepted keptFrom
 run-renders [] x = x
 run-renders {s} {t} {of} (c ∷ calls) x =
-    renders-same (λ l. kept-next s l (of l) c (accepted calls (does c t .left)) (eqb (does c t .reply) 0)) (run-renders calls (step c x))
+    renders-same (λ l. kept-next s l (of l) c (accepted calls (does c t .result)) (eqb (does c t .reply) 0)) (run-renders calls (step c x))

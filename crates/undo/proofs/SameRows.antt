@@ -38,9 +38,9 @@ module _ {s : Shape} {t u : Store} {of of′ : ℕ → Rows} (x : Renders s t of
   same-buffer : (enc : List ℕ → List ℕ) (a : ℕ) (buf buf′ : List ℕ) → length buf ≡ total a s → length buf′ ≡ total a s
       → ((l : ℕ) → Holds a s l (lengthOf (t .rec) l) (encoded enc s (of l)) buf)
       → ((l : ℕ) → Holds a s l (lengthOf (u .rec) l) (encoded enc s (of′ l)) buf′) → buf ≡ buf′
-  same-buffer enc a buf buf′ w w′ held held′ =
+  same-buffer enc a buf buf′ w w′ len len′ =
       places-same a s buf buf′ w w′
-      (λ l side h p k. held l .row side h p k ∙ rw (same-length l, same l (k .layer-in)) (sym (held′ l .row side h p k)))
+      (λ l side h p k. len l .row side h p k ∙ rw (same-length l, same l (k .layer-in)) (sym (len′ l .row side h p k)))
 
   pub same-rows : SameCache t u
   same-rows =

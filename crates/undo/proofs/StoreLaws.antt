@@ -25,11 +25,11 @@ pub record Renders (s : Shape) (t : Store) (of : ℕ → Rows) : Type 0 where
   pub shape-is : t .rec .shape ≡ s
   pub shape-in : within s ≡ true
   pub lengths : HasLengths (t .rec)
-  pub sizes : Sizes s (t .lent)
-  pub layer : (l : ℕ) → HasRows s l (lengthOf (t .rec) l) (of l) (t .lent)
+  pub sizes : Sizes s (t .memory)
+  pub layer : (l : ℕ) → HasRows s l (lengthOf (t .rec) l) (of l) (t .memory)
 
 -- a store that was just opened has no rows
-pub opened-renders : (s : Shape) (b : Buffers) → openOf s b .reply ≡ 0 → Renders s (openOf s b .left) (λ l. noRows)
+pub opened-renders : (s : Shape) (b : Buffers) → openOf s b .reply ≡ 0 → Renders s (openOf s b .result) (λ l. noRows)
 unfolding openOf outcome
 opened-renders s b h =
     let v : within s ≡ true = not-false (within s) (lowest-none 0 (bufferRefusals s b) refl h .0) in
@@ -44,18 +44,18 @@ opened-renders s b h =
 
 module _ {s : Shape} {t : Store} {of : ℕ → Rows} (x : Renders s t of) where
   -- its record and buffers are refused by no call
-  nothing-refused : None (storeRefusals (t .rec) (t .lent))
+  nothing-refused : None (storeRefusals (t .rec) (t .memory))
   unfolding exact
   nothing-refused =
       let good = lengths-good (t .rec) (λ l. rw (x .shape-is) (x .layer l .span)) in
       (rw (x .shape-is, x .shape-in), (rw (x .shape-is, both-true (eq-eqb _ _ (x .sizes .0)) (eq-eqb _ _ (x .sizes .1))), (rw good, tt)))
 
-  pub in-room : {l : ℕ} → l < s .layers → InRoom s l (t .lent)
+  pub in-room : {l : ℕ} → l < s .layers → InRoom s l (t .memory)
   in-room w = record { in-limits = within-limits s (x .shape-in); layer = w; sizes = x .sizes }
 
   -- rows that fit are accepted
   pub append-accepted : (l : ℕ) (keys values : List ℕ) (n : ℕ) → l < s .layers → length keys ≡ n * width s → length values ≡ n * width s
-      → lengthOf (t .rec) l + n ≤ s .capacity → appendOf (t .rec) (t .lent) l keys values .reply ≡ 0
+      → lengthOf (t .rec) l + n ≤ s .capacity → appendOf (t .rec) (t .memory) l keys values .reply ≡ 0
   unfolding appendOf outcome
   append-accepted l keys values n w k v span =
       let d : 0 < width s = width-in s (within-limits s (x .shape-in)) .0 in
@@ -64,4 +64,4 @@ module _ {s : Shape} {t : Store} {of : ℕ → Rows} (x : Renders s t of) where
         rw (lt-ltb l (s .layers) w),
         (rw (k, v, mul-mod-left n (width s), eq-eqb (n * width s) (n * width s) refl), (rw (e, le-leb _ _ span), tt)),
       ) in
-      passed-before (storeRefusals (t .rec) (t .lent)) _ nothing-refused ∙ rw (x .shape-is) (none-lowest _ whole)
+      passed-before (storeRefusals (t .rec) (t .memory)) _ nothing-refused ∙ rw (x .shape-is) (none-lowest _ whole)

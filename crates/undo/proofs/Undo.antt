@@ -22,5 +22,5 @@ undo-is-real s b b′ opened opened′ calls =
     let of = surviving s b calls in
     let again = oneAppendEach s of in
     let x = after-renders s b opened calls in
-    let taken : accepted again (openOf s b′ .left) ≡ again = each-accepted s of x (opened-renders s b′ opened′) in
+    let taken : accepted again (openOf s b′ .result) ≡ again = each-accepted s of x (opened-renders s b′ opened′) in
     (same-rows x (after-renders s b′ opened′ again) (λ l w. rw taken (sym (own-rows s of x l w))), taken)

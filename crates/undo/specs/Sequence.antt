@@ -14,23 +14,23 @@ pub data Call : Type 0 where
   truncate : ℕ → ℕ → Call
   -- a count
   advance : ℕ → Call
-  -- a call that reads, by its reply: any function of the store, such as λ t. readOf (t .rec) (t .lent) l side h p out .reply,
+  -- a call that reads, by its reply: any function of the store, such as λ t. readOf (t .rec) (t .memory) l side h p out .reply,
   -- and likewise by cachedLenOf, memoryBytesOf, headScoresOf and headSumsOf
   reads : (Store → ℕ) → Call
 
 -- what a call answers and leaves: an advance has no buffers, and reading leaves the store
 unfoldable pub does : Call → Store → Outcome Store
-does (append l keys values) t = appendOf (t .rec) (t .lent) l keys values
-does (truncate l n) t = truncateOf (t .rec) (t .lent) l n
+does (append l keys values) t = appendOf (t .rec) (t .memory) l keys values
+does (truncate l n) t = truncateOf (t .rec) (t .memory) l n
 does (advance count) t =
     let o = advanceOf (t .rec) count in
-    record { reply = o .reply; left = store (o .left) (t .lent) }
-does (reads reply) t = record { reply = reply t; left = t }
+    record { reply = o .reply; result = store (o .result) (t .memory) }
+does (reads reply) t = record { reply = reply t; result = t }
 
 -- calls one after the other, from store t: what they leave, and which of them are accepted
 unfoldable pub run : List Call → Store → Store
 run [] t = t
-run (c ∷ calls) t = run calls (does c t .left)
+run (c ∷ calls) t = run calls (does c t .result)
 
 -- a call counts where it was done
 abbrev pub counted : Bool → Call → List Call → List Call
@@ -38,4 +38,4 @@ counted done c others = cond done (c ∷ others) others
 
 unfoldable pub accepted : List Call → Store → List Call
 accepted [] t = []
-accepted (c ∷ calls) t = counted (eqb (does c t .reply) 0) c (accepted calls (does c t .left))
+accepted (c ∷ calls) t = counted (eqb (does c t .reply) 0) c (accepted calls (does c t .result))

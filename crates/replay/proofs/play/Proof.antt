@@ -23,7 +23,7 @@ play-in-requires c κs = search needs
 returns : tie.Need-returns
 returns c =
     let e = rw (c .before .before .before .before .before .before .before .no-cells .ensures, c .before .before .before .before .before .before .no-scales .ensures) at (c .before .before .play-in .ensures) in
-    (ap (λ (p : Play). p .text) e, (ap (λ (p : Play). p .last .place) e, ap (λ (p : Play). p .last .held .rec) e))
+    (ap (λ (p : Play). p .text) e, (ap (λ (p : Play). p .last .place) e, ap (λ (p : Play). p .last .cache .rec) e))
 
 pub play-spec : {M : Type 1} → statement M
 play-spec =

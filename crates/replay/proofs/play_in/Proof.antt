@@ -22,7 +22,7 @@ unfolding playOf
 returns c =
     let a = c .before .before .before .before .before .before .before .args in
     rw (lt-leb _ 16384 (c .before .before .before .if1 .taken), c .not-open .ensures)
-    (ap (λ (l : Laid). record { last = walk 16384 (start (buffers (a .cells .now) (a .scales .now)) .held); text = l })
+    (ap (λ (l : Laid). record { last = walk 16384 (start (buffers (a .cells .now) (a .scales .now)) .cache); text = l })
     (c .before .bad-text .ensures ∙ laid-first (badText 16384) (a .out .now) (omega arith)))
 
 walk-file-requires : tie.Need-walk-file-requires

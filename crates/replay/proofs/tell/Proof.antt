@@ -89,7 +89,7 @@ returns-3 c = rw (c .before .before .before .before .before .before .before .bef
 
 returns-4 : tie.Need-returns-4
 unfolding advanceIn
-returns-4 c = rw (c .before .before .before .entry4 .given .1) (answered-by (c .answer4 .ensures) (ap (λ (o : Outcome Record). record { reply = o .reply; left = store (o .left) (buffers (c .before .before .before .before .before .before .before .before .args .cells .now) (c .before .before .before .before .before .before .before .before .args .scales .now)) }) (c .before .advance-seq-len .ensures)))
+returns-4 c = rw (c .before .before .before .entry4 .given .1) (answered-by (c .answer4 .ensures) (ap (λ (o : Outcome Record). record { reply = o .reply; result = store (o .result) (buffers (c .before .before .before .before .before .before .before .before .args .cells .now) (c .before .before .before .before .before .before .before .before .args .scales .now)) }) (c .before .advance-seq-len .ensures)))
 
 returns-5 : tie.Need-returns-5
 returns-5 c = rw (c .before .enum-told .given .1, c .report .ensures)

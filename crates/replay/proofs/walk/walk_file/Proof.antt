@@ -1,4 +1,4 @@
--- `replay::walk::walk_file` meets its contract: a walk of its MIR, by hand. A `Reader` is made before the loop, and held in a local that each turn stores anew.
+-- `replay::walk::walk_file` meets its contract: a walk of its MIR, by hand. A `Reader` is made before the loop, and cache in a local that each turn stores anew.
 -- `Proof/Ends.antt` has the entry and the exit, and `Proof/Turns.antt` the loop. All that the proof knows of the five callees is that each meets its contract.
 -- Assumes nothing.
 use mathlib.Core.Path.{_≡_, refl, sym, ap, _∙_}

@@ -6,10 +6,10 @@ use Rattle.test_codes.proofs.show.fields.Statement.{statement}
 use Rattle.test_codes.proofs.show.fields.Tie as tie
 
 abbrev Inv-loop : tie.InvT-loop
-Inv-loop run scale told i₀ i = i ≤ length run
+Inv-loop run scale shown i₀ i = i ≤ length run
 
 abbrev μ-loop : tie.MeasureT-loop
-μ-loop run scale told i₀ i = length run - i
+μ-loop run scale shown i₀ i = length run - i
 
 loop-holds : tie.Need-loop-holds Inv-loop μ-loop
 loop-holds c = search needs

@@ -7,10 +7,10 @@ use Rattle.test_histories.proofs.fresh.fill.Statement.{statement}
 use Rattle.test_histories.proofs.fresh.fill.Tie as tie
 
 abbrev Inv-loop : tie.InvT-loop
-Inv-loop rec kept counts fresh₀ cells₀ scales₀ layers layer₀ fresh cells scales layer = (layers ≤ 8) × (length cells ≡ length cells₀) × (length scales ≡ length scales₀)
+Inv-loop rec survivors counts fresh₀ cells₀ scales₀ layers layer₀ fresh cells scales layer = (layers ≤ 8) × (length cells ≡ length cells₀) × (length scales ≡ length scales₀)
 
 abbrev μ-loop : tie.MeasureT-loop
-μ-loop rec kept counts fresh₀ cells₀ scales₀ layers layer₀ fresh cells scales layer = layers - layer
+μ-loop rec survivors counts fresh₀ cells₀ scales₀ layers layer₀ fresh cells scales layer = layers - layer
 
 element-copy-out-kv-open : tie.Need-element-copy-out-kv-open Inv-loop μ-loop
 element-copy-out-kv-open c = search needs

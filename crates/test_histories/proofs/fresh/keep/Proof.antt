@@ -5,10 +5,10 @@ use Rattle.test_histories.proofs.fresh.keep.Statement.{statement}
 use Rattle.test_histories.proofs.fresh.keep.Tie as tie
 
 abbrev Inv-loop : tie.InvT-loop
-Inv-loop line k n kept₀ at i₀ kept i = i ≤ n
+Inv-loop line k n kept₀ at i₀ survivors i = i ≤ n
 
 abbrev μ-loop : tie.MeasureT-loop
-μ-loop line k n kept₀ at i₀ kept i = n - i
+μ-loop line k n kept₀ at i₀ survivors i = n - i
 
 loop-holds : tie.Need-loop-holds Inv-loop μ-loop
 loop-holds c = search needs
@@ -19,14 +19,14 @@ add-word c = search needs
 word-requires : tie.Need-word-requires Inv-loop μ-loop
 word-requires c κs = search needs
 
-add-kept : tie.Need-add-kept Inv-loop μ-loop
-add-kept c = search needs
+add-survivors : tie.Need-add-survivors Inv-loop μ-loop
+add-survivors c = search needs
 
-mul-kept : tie.Need-mul-kept Inv-loop μ-loop
-mul-kept c = search needs
+mul-survivors : tie.Need-mul-survivors Inv-loop μ-loop
+mul-survivors c = search needs
 
-element-write-kept : tie.Need-element-write-kept Inv-loop μ-loop
-element-write-kept c = search needs
+element-write-survivors : tie.Need-element-write-survivors Inv-loop μ-loop
+element-write-survivors c = search needs
 
 add-i : tie.Need-add-i Inv-loop μ-loop
 add-i c = search needs
@@ -49,9 +49,9 @@ keep-spec =
     loop-holds
     add-word
     word-requires
-    add-kept
-    mul-kept
-    element-write-kept
+    add-survivors
+    mul-survivors
+    element-write-survivors
     add-i
     loop-less
     loop-again
