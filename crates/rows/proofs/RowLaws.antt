@@ -72,20 +72,20 @@ none-lawful : LawfulCoding noLayout noCoding
 none-lawful = record { cells-length = λ run h. refl; scales-length = λ run. refl; numbers-length = λ n cells scales h. length-replicate n 0 }
 
 -- at every number
-lawful : (format : ℕ) → LawfulCoding (layoutOf format) (codingOf format)
+coding-lawful : (format : ℕ) → LawfulCoding (layoutOf format) (codingOf format)
 unfolding layouts codings
-lawful = at-every LawfulCoding layouts codings noLayout noCoding (f32-lawful, (bf16-lawful, (int8-lawful, (int4-lawful, tt)))) none-lawful
+coding-lawful = at-every LawfulCoding layouts codings noLayout noCoding (f32-lawful, (bf16-lawful, (int8-lawful, (int4-lawful, tt)))) none-lawful
 
 pub row-cells-length : (format : ℕ) (run : List ℕ) → wholeGroups format (length run) ≡ true
     → length (rowCells format run) ≡ cellBytes format (length run)
 unfolding rowCells cellBytes wholeGroups
-row-cells-length format run h = lawful format .cells-length run (eqb-true _ 0 h)
+row-cells-length format run h = coding-lawful format .cells-length run (eqb-true _ 0 h)
 
 pub row-scales-length : (format : ℕ) (run : List ℕ) → length (rowScales format run) ≡ scaleWords format (length run)
 unfolding rowScales scaleWords
-row-scales-length format run = lawful format .scales-length run
+row-scales-length format run = coding-lawful format .scales-length run
 
 pub row-numbers-length : (format n : ℕ) (cells scales : List ℕ) → wholeGroups format n ≡ true
     → length (rowNumbers format n cells scales) ≡ n
 unfolding rowNumbers wholeGroups
-row-numbers-length format n cells scales h = lawful format .numbers-length n cells scales (eqb-true _ 0 h)
+row-numbers-length format n cells scales h = coding-lawful format .numbers-length n cells scales (eqb-true _ 0 h)

@@ -8,7 +8,7 @@ use native.Mathlib.Omega.{arith}
 use lib.Dec.{eqb}
 use borrow.Author.Tests.{eq-eqb, ltb-true}
 use lib.ListN.{length, getD, List·getD-eq-default}
-use Rattle.shapes.specs.Format.{Layout, layouts, layoutOf, noLayout, known}
+use Rattle.shapes.specs.Format.{Layout, f32Layout, bf16Layout, int8Layout, int4Layout, layouts, layoutOf, noLayout, known}
 
 -- a fact of each two lines of two tables
 abbrev pub Lines : {A B : Type 0} → (A → B → Type 0) → List A → List B → Type 0
@@ -28,24 +28,24 @@ pub record LawfulLayout (f : Layout) : Type 0 where
   pub few-bytes : (d : ℕ) → d ≤ 256 → f .bytes d ≤ 1024
   pub few-words : (d : ℕ) → d ≤ 256 → f .words d ≤ 1024
 
-pub lawful : (format : ℕ) → LawfulLayout (layoutOf format)
+f32-few : LawfulLayout f32Layout
+f32-few = record { few-bytes = λ d h. omega arith; few-words = λ d h. omega arith }
+
+bf16-few : LawfulLayout bf16Layout
+bf16-few = record { few-bytes = λ d h. omega arith; few-words = λ d h. omega arith }
+
+int8-few : LawfulLayout int8Layout
+int8-few = record { few-bytes = λ d h. omega arith; few-words = λ d h. omega arith }
+
+int4-few : LawfulLayout int4Layout
+int4-few = record { few-bytes = λ d h. omega arith; few-words = λ d h. omega arith }
+
+none-few : LawfulLayout noLayout
+none-few = record { few-bytes = λ d h. omega arith; few-words = λ d h. omega arith }
+
+pub layout-lawful : (format : ℕ) → LawfulLayout (layoutOf format)
 unfolding layouts
-lawful format =
-    at-every (λ f g. LawfulLayout f) layouts layouts noLayout noLayout (
-      record { few-bytes = λ d h. omega arith; few-words = λ d h. omega arith },
-      (
-        record { few-bytes = λ d h. omega arith; few-words = λ d h. omega arith },
-        (
-          record { few-bytes = λ d h. omega arith; few-words = λ d h. omega arith },
-          (
-            record { few-bytes = λ d h. omega arith; few-words = λ d h. omega arith },
-            tt,
-          ),
-        ),
-      ),
-    )
-    (record { few-bytes = λ d h. omega arith; few-words = λ d h. omega arith })
-    format
+layout-lawful = at-every (λ f g. LawfulLayout f) layouts layouts noLayout noLayout (f32-few, (bf16-few, (int8-few, (int4-few, tt)))) none-few
 
 -- a number that the table has not
 pub unknown : (format : ℕ) → length layouts ≤ format → layoutOf format ≡ noLayout

@@ -11,7 +11,7 @@ use Rattle.replies.proofs.Flags.{both}
 use Rattle.shapes.specs.declared.Shape.{Shape}
 use Rattle.shapes.specs.Format.{known, wholeGroups}
 use Rattle.shapes.specs.Shape.{headSize, cellBytes, scaleWords, bytesOf, wordsOf, width, cellTotal, scaleTotal, upTo, limits, within, exact}
-use Rattle.shapes.proofs.FormatLaws.{lawful}
+use Rattle.shapes.proofs.FormatLaws.{layout-lawful}
 
 -- the limits, as facts
 pub record Limits (s : Shape) : Type 0 where
@@ -54,7 +54,7 @@ exact-sizes s cells scales h = let t = both _ _ h in (eqb-true cells (cellTotal 
 -- a row of up to 256 numbers has no more than 1,024 cells, and no more scale words
 pub row-most : (format d : ℕ) → d ≤ 256 → (cellBytes format d ≤ 1024) × (scaleWords format d ≤ 1024)
 unfolding cellBytes scaleWords
-row-most format d h = let k = lawful format in (k .few-bytes d h, k .few-words d h)
+row-most format d h = let k = layout-lawful format in (k .few-bytes d h, k .few-words d h)
 
 pub cell-bytes-most : (s : Shape) → Limits s → bytesOf s ≤ 1024
 cell-bytes-most s h = row-most (s .format) (headSize s) (h .size-in .1) .0

@@ -6,7 +6,7 @@ use mathlib.Core.List.{List, [], _∷_}
 use lib.Dec.{eqb, ltb}
 use lib.ListN.{length, getD}
 
--- numbers come in whole groups; B and S of so many numbers
+-- how many numbers a group has, since they come in whole groups; B and S of so many numbers
 pub record Layout : Type 0 where
   pub group : ℕ
   pub bytes : ℕ → ℕ
