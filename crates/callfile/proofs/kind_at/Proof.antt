@@ -5,18 +5,6 @@ use Rattle.callfile.specs.Format.{kindAt}
 use Rattle.callfile.proofs.kind_at.Statement.{statement}
 use Rattle.callfile.proofs.kind_at.Tie as tie
 
-open-at-requires : tie.Need-open-at-requires
-open-at-requires c κs = search needs
-
-append-at-requires : tie.Need-append-at-requires
-append-at-requires c κs = search needs
-
-truncate-at-requires : tie.Need-truncate-at-requires
-truncate-at-requires c κs = search needs
-
-advance-at-requires : tie.Need-advance-at-requires
-advance-at-requires c κs = search needs
-
 returns : tie.Need-returns
 unfolding kindAt
 returns c = rw (c .before .match .keys1) (c .open-at .ensures)
@@ -47,13 +35,5 @@ pub kind-at-spec : {M : Type 1} → statement M
 kind-at-spec =
     tie.close
     (tie.spec
-    open-at-requires
-    append-at-requires
-    truncate-at-requires
-    advance-at-requires
-    returns
-    returns-2
-    returns-3
-    returns-4
-    returns-5
-    returns-6)
+    (λ c κs. search needs) (λ c κs. search needs) (λ c κs. search needs) (λ c κs. search needs) returns returns-2 returns-3
+    returns-4 returns-5 returns-6)

@@ -24,45 +24,12 @@ loop-holds : tie.Need-loop-holds Inv-loop μ-loop
 unfolding tab
 loop-holds c = search needs
 
-mul-a : tie.Need-mul-a Inv-loop μ-loop
-mul-a c = search needs
-
-add-half-of : tie.Need-add-half-of Inv-loop μ-loop
-add-half-of c = search needs
-
-sub-half-of : tie.Need-sub-half-of Inv-loop μ-loop
-sub-half-of c = search needs
-
-part-half-of-start : tie.Need-part-half-of-start Inv-loop μ-loop
-part-half-of-start c = search needs
-
-part-half-of-end : tie.Need-part-half-of-end Inv-loop μ-loop
-part-half-of-end c = search needs
-
 half-of-requires : tie.Need-half-of-requires Inv-loop μ-loop
 half-of-requires c κs = simp (length-take, length-drop) (omega arith)
-
-bf16-to-f32-requires : tie.Need-bf16-to-f32-requires Inv-loop μ-loop
-bf16-to-f32-requires c κs = search needs
-
-mul-out : tie.Need-mul-out Inv-loop μ-loop
-mul-out c = search needs
-
-slice-write-out : tie.Need-slice-write-out Inv-loop μ-loop
-slice-write-out c = search needs
-
-add-d : tie.Need-add-d Inv-loop μ-loop
-add-d c = search needs
-
-loop-less : tie.Need-loop-less Inv-loop μ-loop
-loop-less c = search needs
 
 loop-again : tie.Need-loop-again Inv-loop μ-loop
 loop-again c =
     (omega arith, tab-set _ _ _ (omega arith) (c .before .before .before .before .loop .inv .1) (rw (c .bf16-to-f32 .ensures, c .before .half-of .ensures, add-sub-cancel-left)), search needs)
-
-same-length : tie.Need-same-length Inv-loop μ-loop
-same-length c = search needs
 
 returns : tie.Need-returns Inv-loop μ-loop
 unfolding bf16Numbers
@@ -72,20 +39,6 @@ pub get-bf16-spec : {M : Type 1} → statement M
 get-bf16-spec =
     tie.close
     (tie.spec
-    Inv-loop
-    μ-loop
-    loop-holds
-    mul-a
-    add-half-of
-    sub-half-of
-    part-half-of-start
-    part-half-of-end
-    half-of-requires
-    bf16-to-f32-requires
-    mul-out
-    slice-write-out
-    add-d
-    loop-less
-    loop-again
-    same-length
-    returns)
+    Inv-loop μ-loop loop-holds (λ c. search needs) (λ c. search needs) (λ c. search needs) (λ c. search needs) (λ c. search needs)
+    half-of-requires (λ c κs. search needs) (λ c. search needs) (λ c. search needs) (λ c. search needs) (λ c. search needs)
+    loop-again (λ c. search needs) returns)

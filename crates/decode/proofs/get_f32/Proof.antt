@@ -22,43 +22,10 @@ loop-holds : tie.Need-loop-holds Inv-loop μ-loop
 unfolding tab
 loop-holds c = search needs
 
-mul-a : tie.Need-mul-a Inv-loop μ-loop
-mul-a c = search needs
-
-add-word-of : tie.Need-add-word-of Inv-loop μ-loop
-add-word-of c = search needs
-
-sub-word-of : tie.Need-sub-word-of Inv-loop μ-loop
-sub-word-of c = search needs
-
-part-word-of-start : tie.Need-part-word-of-start Inv-loop μ-loop
-part-word-of-start c = search needs
-
-part-word-of-end : tie.Need-part-word-of-end Inv-loop μ-loop
-part-word-of-end c = search needs
-
-word-of-requires : tie.Need-word-of-requires Inv-loop μ-loop
-word-of-requires c κs = search needs
-
-mul-out : tie.Need-mul-out Inv-loop μ-loop
-mul-out c = search needs
-
-slice-write-out : tie.Need-slice-write-out Inv-loop μ-loop
-slice-write-out c = search needs
-
-add-d : tie.Need-add-d Inv-loop μ-loop
-add-d c = search needs
-
-loop-less : tie.Need-loop-less Inv-loop μ-loop
-loop-less c = search needs
-
 loop-again : tie.Need-loop-again Inv-loop μ-loop
 loop-again c =
     let cells = c .before .before .before .before .before .before .args .cells .now in
     (omega arith, tab-set _ _ _ (omega arith) (c .before .before .before .loop .inv .1) (word-lent cells (c .before .before .before .loop .d * 4) (c .word-of .ensures) (omega arith)), search needs)
-
-same-length : tie.Need-same-length Inv-loop μ-loop
-same-length c = search needs
 
 returns : tie.Need-returns Inv-loop μ-loop
 unfolding f32Numbers
@@ -68,19 +35,6 @@ pub get-f32-spec : {M : Type 1} → statement M
 get-f32-spec =
     tie.close
     (tie.spec
-    Inv-loop
-    μ-loop
-    loop-holds
-    mul-a
-    add-word-of
-    sub-word-of
-    part-word-of-start
-    part-word-of-end
-    word-of-requires
-    mul-out
-    slice-write-out
-    add-d
-    loop-less
-    loop-again
-    same-length
-    returns)
+    Inv-loop μ-loop loop-holds (λ c. search needs) (λ c. search needs) (λ c. search needs) (λ c. search needs) (λ c. search needs)
+    (λ c κs. search needs) (λ c. search needs) (λ c. search needs) (λ c. search needs) (λ c. search needs) loop-again
+    (λ c. search needs) returns)

@@ -18,9 +18,6 @@ use Rattle.rows.proofs.FitLaws.{RowFits, fits-facts, f32-fits, bf16-fits, int8-
 use Rattle.decode.proofs.get_row.Statement.{statement}
 use Rattle.decode.proofs.get_row.Tie as tie
 
-rows-fit-requires : tie.Need-rows-fit-requires
-rows-fit-requires c κs = search needs
-
 returns : tie.Need-returns
 unfolding getRowOf
 returns c = rw (failed (c .before .rows-fit .ensures) (c .if1 .taken))
@@ -50,29 +47,17 @@ get-int8-requires c κs = int8-fits (rw (c .before .match .keys3) at (fits (c .b
 get-int4-requires : tie.Need-get-int4-requires
 get-int4-requires c κs = int4-fits (rw (c .before .match .keys4) at (fits (c .before .before)))
 
-same-length : tie.Need-same-length
-same-length c = search needs
-
 returns-2 : tie.Need-returns-2
 unfolding rowNumbers codings
 returns-2 c = let k = c .before .before .before .before in done (k .before) (rw (k .match .keys1) (c .before .before .get-f32 .ensures))
-
-same-length-2 : tie.Need-same-length-2
-same-length-2 c = search needs
 
 returns-3 : tie.Need-returns-3
 unfolding rowNumbers codings
 returns-3 c = let k = c .before .before .before .before in done (k .before) (rw (k .match .keys2) (c .before .before .get-bf16 .ensures))
 
-same-length-3 : tie.Need-same-length-3
-same-length-3 c = search needs
-
 returns-4 : tie.Need-returns-4
 unfolding rowNumbers codings
 returns-4 c = let k = c .before .before .before .before in done (k .before) (rw (k .match .keys3) (c .before .before .get-int8 .ensures))
-
-same-length-4 : tie.Need-same-length-4
-same-length-4 c = search needs
 
 returns-5 : tie.Need-returns-5
 unfolding rowNumbers codings
@@ -87,18 +72,5 @@ pub get-row-spec : {M : Type 1} → statement M
 get-row-spec =
     tie.close
     (tie.spec
-    rows-fit-requires
-    returns
-    get-f32-requires
-    get-bf16-requires
-    get-int8-requires
-    get-int4-requires
-    same-length
-    returns-2
-    same-length-2
-    returns-3
-    same-length-3
-    returns-4
-    same-length-4
-    returns-5
-    returns-6)
+    (λ c κs. search needs) returns get-f32-requires get-bf16-requires get-int8-requires get-int4-requires (λ c. search needs)
+    returns-2 (λ c. search needs) returns-3 (λ c. search needs) returns-4 (λ c. search needs) returns-5 returns-6)

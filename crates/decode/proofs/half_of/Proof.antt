@@ -5,15 +5,6 @@ use Rattle.lists.proofs.Bytes.{from-byte, from-end}
 use Rattle.decode.proofs.half_of.Statement.{statement}
 use Rattle.decode.proofs.half_of.Tie as tie
 
-shared-slice-read-half-from : tie.Need-shared-slice-read-half-from
-shared-slice-read-half-from c = search needs
-
-shared-slice-read-half-from-2 : tie.Need-shared-slice-read-half-from-2
-shared-slice-read-half-from-2 c = search needs
-
-half-from-requires : tie.Need-half-from-requires
-half-from-requires c κs = search needs
-
 returns : tie.Need-returns
 returns c =
     let cells = c .before .before .before .before .args .cells .now in
@@ -21,5 +12,4 @@ returns c =
 
 pub half-of-spec : {M : Type 1} → statement M
 half-of-spec =
-    tie.close
-    (tie.spec shared-slice-read-half-from shared-slice-read-half-from-2 half-from-requires returns)
+    tie.close (tie.spec (λ c. search needs) (λ c. search needs) (λ c κs. search needs) returns)

@@ -10,21 +10,6 @@ use Rattle.decode.proofs.word_of.Tie as tie
 returns : tie.Need-returns
 returns c = rw (ne-eqb _ 4 (c .if1 .taken))
 
-shared-slice-read-word-of-bytes : tie.Need-shared-slice-read-word-of-bytes
-shared-slice-read-word-of-bytes c = search needs
-
-shared-slice-read-word-of-bytes-2 : tie.Need-shared-slice-read-word-of-bytes-2
-shared-slice-read-word-of-bytes-2 c = search needs
-
-shared-slice-read-word-of-bytes-3 : tie.Need-shared-slice-read-word-of-bytes-3
-shared-slice-read-word-of-bytes-3 c = search needs
-
-shared-slice-read-word-of-bytes-4 : tie.Need-shared-slice-read-word-of-bytes-4
-shared-slice-read-word-of-bytes-4 c = search needs
-
-word-of-bytes-requires : tie.Need-word-of-bytes-requires
-word-of-bytes-requires c κs = search needs
-
 returns-2 : tie.Need-returns-2
 unfolding fromLittle
 returns-2 c =
@@ -37,10 +22,4 @@ pub word-of-spec : {M : Type 1} → statement M
 word-of-spec =
     tie.close
     (tie.spec
-    returns
-    shared-slice-read-word-of-bytes
-    shared-slice-read-word-of-bytes-2
-    shared-slice-read-word-of-bytes-3
-    shared-slice-read-word-of-bytes-4
-    word-of-bytes-requires
-    returns-2)
+    returns (λ c. search needs) (λ c. search needs) (λ c. search needs) (λ c. search needs) (λ c κs. search needs) returns-2)

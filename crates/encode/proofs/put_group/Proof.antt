@@ -5,18 +5,6 @@ use Rattle.encode.proofs.EncodeLaws.{pack-all}
 use Rattle.encode.proofs.put_group.Statement.{statement}
 use Rattle.encode.proofs.put_group.Tie as tie
 
-compute-int4-scale-requires : tie.Need-compute-int4-scale-requires
-compute-int4-scale-requires c κs = search needs
-
-pack-i4-group-requires : tie.Need-pack-i4-group-requires
-pack-i4-group-requires c κs = search needs
-
-f32-to-word-requires : tie.Need-f32-to-word-requires
-f32-to-word-requires c κs = search needs
-
-same-length : tie.Need-same-length
-same-length c = search needs
-
 returns : tie.Need-returns
 returns c =
     let start = c .before .before .before .before .before .before .before .before in
@@ -27,10 +15,4 @@ returns c =
 
 pub put-group-spec : {M : Type 1} → statement M
 put-group-spec =
-    tie.close
-    (tie.spec
-    compute-int4-scale-requires
-    pack-i4-group-requires
-    f32-to-word-requires
-    same-length
-    returns)
+    tie.close (tie.spec (λ c κs. search needs) (λ c κs. search needs) (λ c κs. search needs) (λ c. search needs) returns)

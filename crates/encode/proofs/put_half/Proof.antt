@@ -10,21 +10,6 @@ use Rattle.lists.specs.Bytes.{little}
 use Rattle.encode.proofs.put_half.Statement.{statement}
 use Rattle.encode.proofs.put_half.Tie as tie
 
-cast-cells : tie.Need-cast-cells
-cast-cells c = search needs
-
-slice-write-cells : tie.Need-slice-write-cells
-slice-write-cells c = search needs
-
-cast-cells-2 : tie.Need-cast-cells-2
-cast-cells-2 c = search needs
-
-slice-write-cells-2 : tie.Need-slice-write-cells-2
-slice-write-cells-2 c = search needs
-
-same-length : tie.Need-same-length
-same-length c = search needs
-
 returns : tie.Need-returns
 unfolding tab little
 returns c =
@@ -39,5 +24,4 @@ returns c =
 
 pub put-half-spec : {M : Type 1} → statement M
 put-half-spec =
-    tie.close
-    (tie.spec cast-cells slice-write-cells cast-cells-2 slice-write-cells-2 same-length returns)
+    tie.close (tie.spec (λ c. search needs) (λ c. search needs) (λ c. search needs) (λ c. search needs) (λ c. search needs) returns)

@@ -29,53 +29,8 @@ loop-holds : tie.Need-loop-holds Inv-loop μ-loop
 unfolding tab each
 loop-holds c = search needs
 
-mul-a : tie.Need-mul-a Inv-loop μ-loop
-mul-a c = search needs
-
-mul-c : tie.Need-mul-c Inv-loop μ-loop
-mul-c c = search needs
-
-add-put-group : tie.Need-add-put-group Inv-loop μ-loop
-add-put-group c = search needs
-
-mul-put-group : tie.Need-mul-put-group Inv-loop μ-loop
-mul-put-group c = search needs
-
-sub-put-group : tie.Need-sub-put-group Inv-loop μ-loop
-sub-put-group c = search needs
-
-part-put-group-start : tie.Need-part-put-group-start Inv-loop μ-loop
-part-put-group-start c = search needs
-
-part-put-group-end : tie.Need-part-put-group-end Inv-loop μ-loop
-part-put-group-end c = search needs
-
-add-put-group-2 : tie.Need-add-put-group-2 Inv-loop μ-loop
-add-put-group-2 c = search needs
-
-sub-put-group-2 : tie.Need-sub-put-group-2 Inv-loop μ-loop
-sub-put-group-2 c = search needs
-
-part-put-group-start-2 : tie.Need-part-put-group-start-2 Inv-loop μ-loop
-part-put-group-start-2 c = search needs
-
-part-put-group-end-2 : tie.Need-part-put-group-end-2 Inv-loop μ-loop
-part-put-group-end-2 c = search needs
-
 put-group-requires : tie.Need-put-group-requires Inv-loop μ-loop
 put-group-requires c κs = (simp (length-take, length-drop) (omega arith), simp (length-take, length-drop) (omega arith))
-
-mul-scales : tie.Need-mul-scales Inv-loop μ-loop
-mul-scales c = search needs
-
-slice-write-scales : tie.Need-slice-write-scales Inv-loop μ-loop
-slice-write-scales c = search needs
-
-add-g : tie.Need-add-g Inv-loop μ-loop
-add-g c = search needs
-
-loop-less : tie.Need-loop-less Inv-loop μ-loop
-loop-less c = search needs
 
 loop-again : tie.Need-loop-again Inv-loop μ-loop
 loop-again c =
@@ -86,12 +41,6 @@ loop-again c =
       tab-set _ _ _ (omega arith) (inv .1) (rw add-sub-cancel-left at (put .0)),
       search needs,
     )
-
-same-length : tie.Need-same-length Inv-loop μ-loop
-same-length c = search needs
-
-same-length-2 : tie.Need-same-length-2 Inv-loop μ-loop
-same-length-2 c = search needs
 
 returns : tie.Need-returns Inv-loop μ-loop
 unfolding int4Cells int4Scales
@@ -106,26 +55,7 @@ pub put-int4-spec : {M : Type 1} → statement M
 put-int4-spec =
     tie.close
     (tie.spec
-    Inv-loop
-    μ-loop
-    loop-holds
-    mul-a
-    mul-c
-    add-put-group
-    mul-put-group
-    sub-put-group
-    part-put-group-start
-    part-put-group-end
-    add-put-group-2
-    sub-put-group-2
-    part-put-group-start-2
-    part-put-group-end-2
-    put-group-requires
-    mul-scales
-    slice-write-scales
-    add-g
-    loop-less
-    loop-again
-    same-length
-    same-length-2
-    returns)
+    Inv-loop μ-loop loop-holds (λ c. search needs) (λ c. search needs) (λ c. search needs) (λ c. search needs) (λ c. search needs)
+    (λ c. search needs) (λ c. search needs) (λ c. search needs) (λ c. search needs) (λ c. search needs) (λ c. search needs)
+    put-group-requires (λ c. search needs) (λ c. search needs) (λ c. search needs) (λ c. search needs) loop-again
+    (λ c. search needs) (λ c. search needs) returns)

@@ -19,45 +19,12 @@ Inv-loop run cells₀ scales scale d₀ cells d = (d ≤ length run) × (cells �
 abbrev μ-loop : tie.MeasureT-loop
 μ-loop run cells₀ scales scale d₀ cells d = length run - d
 
-compute-int8-scale-requires : tie.Need-compute-int8-scale-requires Inv-loop μ-loop
-compute-int8-scale-requires c κs = search needs
-
-f32-to-word-requires : tie.Need-f32-to-word-requires Inv-loop μ-loop
-f32-to-word-requires c κs = search needs
-
-slice-write-scales : tie.Need-slice-write-scales Inv-loop μ-loop
-slice-write-scales c = search needs
-
 loop-holds : tie.Need-loop-holds Inv-loop μ-loop
 unfolding tab
 loop-holds c = search needs
 
-mul-quantize-i8 : tie.Need-mul-quantize-i8 Inv-loop μ-loop
-mul-quantize-i8 c = search needs
-
-shared-slice-read-quantize-i8 : tie.Need-shared-slice-read-quantize-i8 Inv-loop μ-loop
-shared-slice-read-quantize-i8 c = search needs
-
-quantize-i8-requires : tie.Need-quantize-i8-requires Inv-loop μ-loop
-quantize-i8-requires c κs = search needs
-
-slice-write-cells : tie.Need-slice-write-cells Inv-loop μ-loop
-slice-write-cells c = search needs
-
-add-d : tie.Need-add-d Inv-loop μ-loop
-add-d c = search needs
-
-loop-less : tie.Need-loop-less Inv-loop μ-loop
-loop-less c = search needs
-
 loop-again : tie.Need-loop-again Inv-loop μ-loop
 loop-again c = (omega arith, tab-set _ _ _ (omega arith) (c .before .before .before .loop .inv .1) (c .quantize-i8 .ensures), search needs)
-
-same-length : tie.Need-same-length Inv-loop μ-loop
-same-length c = search needs
-
-same-length-2 : tie.Need-same-length-2 Inv-loop μ-loop
-same-length-2 c = search needs
 
 returns : tie.Need-returns Inv-loop μ-loop
 unfolding int8Cells int8Scales
@@ -72,19 +39,6 @@ pub put-int8-spec : {M : Type 1} → statement M
 put-int8-spec =
     tie.close
     (tie.spec
-    Inv-loop
-    μ-loop
-    compute-int8-scale-requires
-    f32-to-word-requires
-    slice-write-scales
-    loop-holds
-    mul-quantize-i8
-    shared-slice-read-quantize-i8
-    quantize-i8-requires
-    slice-write-cells
-    add-d
-    loop-less
-    loop-again
-    same-length
-    same-length-2
-    returns)
+    Inv-loop μ-loop (λ c κs. search needs) (λ c κs. search needs) (λ c. search needs) loop-holds (λ c. search needs)
+    (λ c. search needs) (λ c κs. search needs) (λ c. search needs) (λ c. search needs) (λ c. search needs) loop-again
+    (λ c. search needs) (λ c. search needs) returns)

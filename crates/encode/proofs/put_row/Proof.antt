@@ -19,9 +19,6 @@ use Rattle.encode.proofs.EncodeLaws.{empty}
 use Rattle.encode.proofs.put_row.Statement.{statement}
 use Rattle.encode.proofs.put_row.Tie as tie
 
-rows-fit-requires : tie.Need-rows-fit-requires
-rows-fit-requires c κs = search needs
-
 returns : tie.Need-returns
 unfolding putRowOf
 returns c = rw (failed (c .before .rows-fit .ensures) (c .if1 .taken))
@@ -53,18 +50,12 @@ put-int8-requires c κs = int8-fits (rw (c .before .before .match .keys3) at (fi
 put-int4-requires : tie.Need-put-int4-requires
 put-int4-requires c κs = int4-fits (rw (c .before .before .match .keys4) at (fits (c .before .before .before)))
 
-same-length : tie.Need-same-length
-same-length c = search needs
-
 returns-2 : tie.Need-returns-2
 unfolding rowCells rowScales codings
 returns-2 c =
     let k = c .before .before .before .before in
     let e = k .match .keys1 in
     done (k .before) (rw e (c .before .before .put-f32 .ensures)) (rw e (empty _ (f32-fits (rw e at (fits (k .before))) .1)))
-
-same-length-2 : tie.Need-same-length-2
-same-length-2 c = search needs
 
 returns-3 : tie.Need-returns-3
 unfolding rowCells rowScales codings
@@ -73,24 +64,12 @@ returns-3 c =
     let e = k .match .keys2 in
     done (k .before) (rw e (c .before .before .put-bf16 .ensures)) (rw e (empty _ (bf16-fits (rw e at (fits (k .before))) .1)))
 
-same-length-3 : tie.Need-same-length-3
-same-length-3 c = search needs
-
-same-length-4 : tie.Need-same-length-4
-same-length-4 c = search needs
-
 returns-4 : tie.Need-returns-4
 unfolding rowCells rowScales codings
 returns-4 c =
     let k = c .before .before .before .before .before .before .before in
     let y = c .before .before .before .before .put-int8 .ensures in
     done (k .before) (rw (k .match .keys3) (y .0)) (rw (k .match .keys3) (y .1))
-
-same-length-5 : tie.Need-same-length-5
-same-length-5 c = search needs
-
-same-length-6 : tie.Need-same-length-6
-same-length-6 c = search needs
 
 returns-5 : tie.Need-returns-5
 unfolding rowCells rowScales codings
@@ -108,20 +87,6 @@ pub put-row-spec : {M : Type 1} → statement M
 put-row-spec =
     tie.close
     (tie.spec
-    rows-fit-requires
-    returns
-    put-f32-requires
-    put-bf16-requires
-    put-int8-requires
-    put-int4-requires
-    same-length
-    returns-2
-    same-length-2
-    returns-3
-    same-length-3
-    same-length-4
-    returns-4
-    same-length-5
-    same-length-6
-    returns-5
-    returns-6)
+    (λ c κs. search needs) returns put-f32-requires put-bf16-requires put-int8-requires put-int4-requires (λ c. search needs)
+    returns-2 (λ c. search needs) returns-3 (λ c. search needs) (λ c. search needs) returns-4 (λ c. search needs)
+    (λ c. search needs) returns-5 returns-6)

@@ -10,33 +10,6 @@ use Rattle.lists.specs.Bytes.{little}
 use Rattle.encode.proofs.put_word.Statement.{statement}
 use Rattle.encode.proofs.put_word.Tie as tie
 
-cast-cells : tie.Need-cast-cells
-cast-cells c = search needs
-
-slice-write-cells : tie.Need-slice-write-cells
-slice-write-cells c = search needs
-
-cast-cells-2 : tie.Need-cast-cells-2
-cast-cells-2 c = search needs
-
-slice-write-cells-2 : tie.Need-slice-write-cells-2
-slice-write-cells-2 c = search needs
-
-cast-cells-3 : tie.Need-cast-cells-3
-cast-cells-3 c = search needs
-
-slice-write-cells-3 : tie.Need-slice-write-cells-3
-slice-write-cells-3 c = search needs
-
-cast-cells-4 : tie.Need-cast-cells-4
-cast-cells-4 c = search needs
-
-slice-write-cells-4 : tie.Need-slice-write-cells-4
-slice-write-cells-4 c = search needs
-
-same-length : tie.Need-same-length
-same-length c = search needs
-
 returns : tie.Need-returns
 unfolding tab little
 returns c =
@@ -54,13 +27,5 @@ pub put-word-spec : {M : Type 1} → statement M
 put-word-spec =
     tie.close
     (tie.spec
-    cast-cells
-    slice-write-cells
-    cast-cells-2
-    slice-write-cells-2
-    cast-cells-3
-    slice-write-cells-3
-    cast-cells-4
-    slice-write-cells-4
-    same-length
-    returns)
+    (λ c. search needs) (λ c. search needs) (λ c. search needs) (λ c. search needs) (λ c. search needs) (λ c. search needs)
+    (λ c. search needs) (λ c. search needs) (λ c. search needs) returns)

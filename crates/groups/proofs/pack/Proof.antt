@@ -22,27 +22,6 @@ loop-holds : tie.Need-loop-holds Inv-loop μ-loop
 unfolding tab
 loop-holds c = search needs
 
-mul-quantize-i4 : tie.Need-mul-quantize-i4 Inv-loop μ-loop
-mul-quantize-i4 c = search needs
-
-shared-slice-read-quantize-i4 : tie.Need-shared-slice-read-quantize-i4 Inv-loop μ-loop
-shared-slice-read-quantize-i4 c = search needs
-
-quantize-i4-requires : tie.Need-quantize-i4-requires Inv-loop μ-loop
-quantize-i4-requires c κs = search needs
-
-add-quantize-i4 : tie.Need-add-quantize-i4 Inv-loop μ-loop
-add-quantize-i4 c = search needs
-
-mul-quantize-i4-2 : tie.Need-mul-quantize-i4-2 Inv-loop μ-loop
-mul-quantize-i4-2 c = search needs
-
-shared-slice-read-quantize-i4-2 : tie.Need-shared-slice-read-quantize-i4-2 Inv-loop μ-loop
-shared-slice-read-quantize-i4-2 c = search needs
-
-quantize-i4-requires-2 : tie.Need-quantize-i4-requires-2 Inv-loop μ-loop
-quantize-i4-requires-2 c κs = search needs
-
 -- both codes are below 16
 nibbles : (c : tie.After-quantize-i42 Inv-loop μ-loop) → (c .before .before .quantize-i4 .result < 16) × (c .quantize-i42 .result < 16)
 nibbles c = (rw (c .before .before .quantize-i4 .ensures) (code4-nibble _ _), rw (c .quantize-i42 .ensures) (code4-nibble _ _))
@@ -53,20 +32,8 @@ mul-dst c = omega (arith, nibbles c)
 add-dst : tie.Need-add-dst Inv-loop μ-loop
 add-dst c = omega (arith, nibbles c)
 
-slice-write-dst : tie.Need-slice-write-dst Inv-loop μ-loop
-slice-write-dst c = search needs
-
-add-i : tie.Need-add-i Inv-loop μ-loop
-add-i c = search needs
-
-loop-less : tie.Need-loop-less Inv-loop μ-loop
-loop-less c = search needs
-
 loop-again : tie.Need-loop-again Inv-loop μ-loop
 loop-again c = (omega arith, tab-set _ _ _ (omega arith) (c .before .before .before .before .before .loop .inv .1) (rw (c .before .before .quantize-i4 .ensures, c .quantize-i42 .ensures)), search needs)
-
-same-length : tie.Need-same-length Inv-loop μ-loop
-same-length c = search needs
 
 returns : tie.Need-returns Inv-loop μ-loop
 unfolding packed
@@ -76,21 +43,6 @@ pub pack-spec : {M : Type 1} → statement M
 pack-spec =
     tie.close
     (tie.spec
-    Inv-loop
-    μ-loop
-    loop-holds
-    mul-quantize-i4
-    shared-slice-read-quantize-i4
-    quantize-i4-requires
-    add-quantize-i4
-    mul-quantize-i4-2
-    shared-slice-read-quantize-i4-2
-    quantize-i4-requires-2
-    mul-dst
-    add-dst
-    slice-write-dst
-    add-i
-    loop-less
-    loop-again
-    same-length
-    returns)
+    Inv-loop μ-loop loop-holds (λ c. search needs) (λ c. search needs) (λ c κs. search needs) (λ c. search needs)
+    (λ c. search needs) (λ c. search needs) (λ c κs. search needs) mul-dst add-dst (λ c. search needs) (λ c. search needs)
+    (λ c. search needs) loop-again (λ c. search needs) returns)

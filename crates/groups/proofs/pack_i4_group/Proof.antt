@@ -6,14 +6,8 @@ use Rattle.groups.proofs.GroupLaws.{enough}
 use Rattle.groups.proofs.pack_i4_group.Statement.{statement}
 use Rattle.groups.proofs.pack_i4_group.Tie as tie
 
-has-group-requires : tie.Need-has-group-requires
-has-group-requires c κs = search needs
-
 pack-requires : tie.Need-pack-requires
 pack-requires c κs = enough _ _ (sym (c .before .before .has-group .ensures) ∙ c .before .if1 .taken)
-
-same-length : tie.Need-same-length
-same-length c = search needs
 
 returns : tie.Need-returns
 unfolding groupReply packInto
@@ -26,4 +20,5 @@ unfolding groupReply packInto
 returns-2 c = let missing = sym (c .before .has-group .ensures) ∙ c .if1 .left in (rw missing, rw missing)
 
 pub pack-i4-group-spec : {M : Type 1} → statement M
-pack-i4-group-spec = tie.close (tie.spec has-group-requires pack-requires same-length returns returns-2)
+pack-i4-group-spec =
+    tie.close (tie.spec (λ c κs. search needs) pack-requires (λ c. search needs) returns returns-2)

@@ -7,29 +7,11 @@ use borrow.Author.Needs.{needs}
 use Rattle.groups.proofs.unpack.Statement.{statement}
 use Rattle.groups.proofs.unpack.Tie as tie
 
-slice-relend-prefix-unpack-half : tie.Need-slice-relend-prefix-unpack-half
-slice-relend-prefix-unpack-half c = search needs
-
 slice-aggregate-unpack-half : tie.Need-slice-aggregate-unpack-half
 slice-aggregate-unpack-half c = sym (length-take-le 16 (c .before .before .before .args .dst .now) (omega arith))
 
 unpack-half-requires : tie.Need-unpack-half-requires
 unpack-half-requires c κs = (search needs, length-take-le 16 (c .before .before .before .args .dst .now) (omega arith), search needs)
-
-sub-unpack-half : tie.Need-sub-unpack-half
-sub-unpack-half c = search needs
-
-part-unpack-half-start : tie.Need-part-unpack-half-start
-part-unpack-half-start c = search needs
-
-part-unpack-half-end : tie.Need-part-unpack-half-end
-part-unpack-half-end c = search needs
-
-unpack-half-requires-2 : tie.Need-unpack-half-requires-2
-unpack-half-requires-2 c κs = search needs
-
-same-length : tie.Need-same-length
-same-length c = search needs
 
 returns : tie.Need-returns
 returns c =
@@ -41,12 +23,5 @@ pub unpack-spec : {M : Type 1} → statement M
 unpack-spec =
     tie.close
     (tie.spec
-    slice-relend-prefix-unpack-half
-    slice-aggregate-unpack-half
-    unpack-half-requires
-    sub-unpack-half
-    part-unpack-half-start
-    part-unpack-half-end
-    unpack-half-requires-2
-    same-length
-    returns)
+    (λ c. search needs) slice-aggregate-unpack-half unpack-half-requires (λ c. search needs) (λ c. search needs) (λ c. search needs)
+    (λ c κs. search needs) (λ c. search needs) returns)

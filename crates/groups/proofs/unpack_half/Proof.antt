@@ -21,38 +21,8 @@ loop-holds : tie.Need-loop-holds Inv-loop μ-loop
 unfolding tab
 loop-holds c = search needs
 
-shared-slice-read-code : tie.Need-shared-slice-read-code Inv-loop μ-loop
-shared-slice-read-code c = search needs
-
-cast-code : tie.Need-cast-code Inv-loop μ-loop
-cast-code c = search needs
-
-shr-code : tie.Need-shr-code Inv-loop μ-loop
-shr-code c = search needs
-
-dequantize-i4-requires : tie.Need-dequantize-i4-requires Inv-loop μ-loop
-dequantize-i4-requires c κs = search needs
-
-f32-to-word-requires : tie.Need-f32-to-word-requires Inv-loop μ-loop
-f32-to-word-requires c κs = search needs
-
-mul-dst : tie.Need-mul-dst Inv-loop μ-loop
-mul-dst c = search needs
-
-slice-write-dst : tie.Need-slice-write-dst Inv-loop μ-loop
-slice-write-dst c = search needs
-
-add-i : tie.Need-add-i Inv-loop μ-loop
-add-i c = search needs
-
-loop-less : tie.Need-loop-less Inv-loop μ-loop
-loop-less c = search needs
-
 loop-again : tie.Need-loop-again Inv-loop μ-loop
 loop-again c = (omega arith, tab-set _ _ _ (omega arith) (c .before .before .before .before .loop .inv .1) (cc), search needs)
-
-same-length : tie.Need-same-length Inv-loop μ-loop
-same-length c = search needs
 
 returns : tie.Need-returns Inv-loop μ-loop
 unfolding half
@@ -62,18 +32,6 @@ pub unpack-half-spec : {M : Type 1} → statement M
 unpack-half-spec =
     tie.close
     (tie.spec
-    Inv-loop
-    μ-loop
-    loop-holds
-    shared-slice-read-code
-    cast-code
-    shr-code
-    dequantize-i4-requires
-    f32-to-word-requires
-    mul-dst
-    slice-write-dst
-    add-i
-    loop-less
-    loop-again
-    same-length
-    returns)
+    Inv-loop μ-loop loop-holds (λ c. search needs) (λ c. search needs) (λ c. search needs) (λ c κs. search needs)
+    (λ c κs. search needs) (λ c. search needs) (λ c. search needs) (λ c. search needs) (λ c. search needs) loop-again
+    (λ c. search needs) returns)

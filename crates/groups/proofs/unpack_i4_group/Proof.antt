@@ -6,14 +6,8 @@ use Rattle.groups.proofs.GroupLaws.{enough}
 use Rattle.groups.proofs.unpack_i4_group.Statement.{statement}
 use Rattle.groups.proofs.unpack_i4_group.Tie as tie
 
-has-group-requires : tie.Need-has-group-requires
-has-group-requires c κs = search needs
-
 unpack-requires : tie.Need-unpack-requires
 unpack-requires c κs = enough _ _ (sym (c .before .before .has-group .ensures) ∙ c .before .if1 .taken)
-
-same-length : tie.Need-same-length
-same-length c = search needs
 
 returns : tie.Need-returns
 unfolding groupReply unpackInto
@@ -26,4 +20,5 @@ unfolding groupReply unpackInto
 returns-2 c = let missing = sym (c .before .has-group .ensures) ∙ c .if1 .left in (rw missing, rw missing)
 
 pub unpack-i4-group-spec : {M : Type 1} → statement M
-unpack-i4-group-spec = tie.close (tie.spec has-group-requires unpack-requires same-length returns returns-2)
+unpack-i4-group-spec =
+    tie.close (tie.spec (λ c κs. search needs) unpack-requires (λ c. search needs) returns returns-2)

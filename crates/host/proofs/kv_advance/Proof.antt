@@ -6,18 +6,6 @@ use Rattle.host.proofs.WordLaws.{as-told}
 use Rattle.host.proofs.kv_advance.Statement.{statement}
 use Rattle.host.proofs.kv_advance.Tie as tie
 
-record-of-requires : tie.Need-record-of-requires
-record-of-requires c κs = search needs
-
-advance-seq-len-requires : tie.Need-advance-seq-len-requires
-advance-seq-len-requires c κs = search needs
-
-words-of-requires : tie.Need-words-of-requires
-words-of-requires c κs = search needs
-
-number-requires : tie.Need-number-requires
-number-requires c κs = search needs
-
 returns : tie.Need-returns
 returns c =
     as-told (c .number .ensures) (ap recordOf (c .before .words-of .ensures))
@@ -25,10 +13,4 @@ returns c =
 
 pub kv-advance-spec : {M : Type 1} → statement M
 kv-advance-spec =
-    tie.close
-    (tie.spec
-    record-of-requires
-    advance-seq-len-requires
-    words-of-requires
-    number-requires
-    returns)
+    tie.close (tie.spec (λ c κs. search needs) (λ c κs. search needs) (λ c κs. search needs) (λ c κs. search needs) returns)

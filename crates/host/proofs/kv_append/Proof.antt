@@ -4,24 +4,6 @@ use Rattle.host.proofs.WordLaws.{as-seen}
 use Rattle.host.proofs.kv_append.Statement.{statement}
 use Rattle.host.proofs.kv_append.Tie as tie
 
-record-of-requires : tie.Need-record-of-requires
-record-of-requires c κs = search needs
-
-append-requires : tie.Need-append-requires
-append-requires c κs = search needs
-
-words-of-requires : tie.Need-words-of-requires
-words-of-requires c κs = search needs
-
-number-requires : tie.Need-number-requires
-number-requires c κs = search needs
-
-same-length : tie.Need-same-length
-same-length c = search needs
-
-same-length-2 : tie.Need-same-length-2
-same-length-2 c = search needs
-
 returns : tie.Need-returns
 returns c =
     as-seen (c .number .ensures) (c .before .words-of .ensures)
@@ -31,10 +13,5 @@ pub kv-append-spec : {M : Type 1} → statement M
 kv-append-spec =
     tie.close
     (tie.spec
-    record-of-requires
-    append-requires
-    words-of-requires
-    number-requires
-    same-length
-    same-length-2
-    returns)
+    (λ c κs. search needs) (λ c κs. search needs) (λ c κs. search needs) (λ c κs. search needs) (λ c. search needs)
+    (λ c. search needs) returns)

@@ -5,18 +5,9 @@ use Rattle.host.proofs.WordLaws.{as-told}
 use Rattle.host.proofs.kv_cached_len.Statement.{statement}
 use Rattle.host.proofs.kv_cached_len.Tie as tie
 
-record-of-requires : tie.Need-record-of-requires
-record-of-requires c κs = search needs
-
-cached-len-requires : tie.Need-cached-len-requires
-cached-len-requires c κs = search needs
-
-number-requires : tie.Need-number-requires
-number-requires c κs = search needs
-
 returns : tie.Need-returns
 returns c = as-told (c .number .ensures) refl (rw (c .before .before .record-of .ensures) at (c .before .cached-len .ensures))
 
 pub kv-cached-len-spec : {M : Type 1} → statement M
 kv-cached-len-spec =
-    tie.close (tie.spec record-of-requires cached-len-requires number-requires returns)
+    tie.close (tie.spec (λ c κs. search needs) (λ c κs. search needs) (λ c κs. search needs) returns)

@@ -5,18 +5,9 @@ use Rattle.host.proofs.WordLaws.{as-told}
 use Rattle.host.proofs.kv_memory_bytes.Statement.{statement}
 use Rattle.host.proofs.kv_memory_bytes.Tie as tie
 
-record-of-requires : tie.Need-record-of-requires
-record-of-requires c κs = search needs
-
-memory-bytes-requires : tie.Need-memory-bytes-requires
-memory-bytes-requires c κs = search needs
-
-number-requires : tie.Need-number-requires
-number-requires c κs = search needs
-
 returns : tie.Need-returns
 returns c = as-told (c .number .ensures) refl (rw (c .before .before .record-of .ensures) at (c .before .memory-bytes .ensures))
 
 pub kv-memory-bytes-spec : {M : Type 1} → statement M
 kv-memory-bytes-spec =
-    tie.close (tie.spec record-of-requires memory-bytes-requires number-requires returns)
+    tie.close (tie.spec (λ c κs. search needs) (λ c κs. search needs) (λ c κs. search needs) returns)

@@ -5,15 +5,6 @@ use Rattle.host.proofs.WordLaws.{need-inside, need-outside}
 use Rattle.host.proofs.kv_need.Statement.{statement}
 use Rattle.host.proofs.kv_need.Tie as tie
 
-need-of-requires : tie.Need-need-of-requires
-need-of-requires c κs = search needs
-
-is-within-requires : tie.Need-is-within-requires
-is-within-requires c κs = search needs
-
-number-requires : tie.Need-number-requires
-number-requires c κs = search needs
-
 returns : tie.Need-returns
 returns c =
     need-outside
@@ -21,9 +12,6 @@ returns c =
     (failed (c .before .before .is-within .ensures) (c .before .if1 .taken))
     (c .number .ensures)
     (c .before .before .before .need-of .ensures)
-
-number-requires-2 : tie.Need-number-requires-2
-number-requires-2 c κs = search needs
 
 returns-2 : tie.Need-returns-2
 returns-2 c =
@@ -37,9 +25,4 @@ pub kv-need-spec : {M : Type 1} → statement M
 kv-need-spec =
     tie.close
     (tie.spec
-    need-of-requires
-    is-within-requires
-    number-requires
-    returns
-    number-requires-2
-    returns-2)
+    (λ c κs. search needs) (λ c κs. search needs) (λ c κs. search needs) returns (λ c κs. search needs) returns-2)

@@ -4,21 +4,6 @@ use Rattle.host.proofs.WordLaws.{as-seen}
 use Rattle.host.proofs.kv_open.Statement.{statement}
 use Rattle.host.proofs.kv_open.Tie as tie
 
-open-requires : tie.Need-open-requires
-open-requires c κs = search needs
-
-words-of-requires : tie.Need-words-of-requires
-words-of-requires c κs = search needs
-
-number-requires : tie.Need-number-requires
-number-requires c κs = search needs
-
-same-length : tie.Need-same-length
-same-length c = search needs
-
-same-length-2 : tie.Need-same-length-2
-same-length-2 c = search needs
-
 returns : tie.Need-returns
 returns c =
     as-seen (c .number .ensures) (c .before .words-of .ensures)
@@ -27,4 +12,5 @@ returns c =
 pub kv-open-spec : {M : Type 1} → statement M
 kv-open-spec =
     tie.close
-    (tie.spec open-requires words-of-requires number-requires same-length same-length-2 returns)
+    (tie.spec
+    (λ c κs. search needs) (λ c κs. search needs) (λ c κs. search needs) (λ c. search needs) (λ c. search needs) returns)

@@ -5,18 +5,6 @@ use Rattle.host.proofs.WordLaws.{as-told}
 use Rattle.host.proofs.kv_sums.Statement.{statement}
 use Rattle.host.proofs.kv_sums.Tie as tie
 
-record-of-requires : tie.Need-record-of-requires
-record-of-requires c κs = search needs
-
-sums-requires : tie.Need-sums-requires
-sums-requires c κs = search needs
-
-number-requires : tie.Need-number-requires
-number-requires c κs = search needs
-
-same-length : tie.Need-same-length
-same-length c = search needs
-
 returns : tie.Need-returns
 returns c =
     as-told (c .number .ensures) refl
@@ -24,4 +12,4 @@ returns c =
 
 pub kv-sums-spec : {M : Type 1} → statement M
 kv-sums-spec =
-    tie.close (tie.spec record-of-requires sums-requires number-requires same-length returns)
+    tie.close (tie.spec (λ c κs. search needs) (λ c κs. search needs) (λ c κs. search needs) (λ c. search needs) returns)

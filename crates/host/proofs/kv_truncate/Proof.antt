@@ -4,24 +4,6 @@ use Rattle.host.proofs.WordLaws.{as-seen}
 use Rattle.host.proofs.kv_truncate.Statement.{statement}
 use Rattle.host.proofs.kv_truncate.Tie as tie
 
-record-of-requires : tie.Need-record-of-requires
-record-of-requires c κs = search needs
-
-truncate-to-requires : tie.Need-truncate-to-requires
-truncate-to-requires c κs = search needs
-
-words-of-requires : tie.Need-words-of-requires
-words-of-requires c κs = search needs
-
-number-requires : tie.Need-number-requires
-number-requires c κs = search needs
-
-same-length : tie.Need-same-length
-same-length c = search needs
-
-same-length-2 : tie.Need-same-length-2
-same-length-2 c = search needs
-
 returns : tie.Need-returns
 returns c =
     as-seen (c .number .ensures) (c .before .words-of .ensures)
@@ -31,10 +13,5 @@ pub kv-truncate-spec : {M : Type 1} → statement M
 kv-truncate-spec =
     tie.close
     (tie.spec
-    record-of-requires
-    truncate-to-requires
-    words-of-requires
-    number-requires
-    same-length
-    same-length-2
-    returns)
+    (λ c κs. search needs) (λ c κs. search needs) (λ c κs. search needs) (λ c κs. search needs) (λ c. search needs)
+    (λ c. search needs) returns)

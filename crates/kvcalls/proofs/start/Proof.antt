@@ -12,27 +12,14 @@ use Rattle.kvcalls.proofs.start.Tie as tie
 in-buffer : (c : tie.After-play) → c .play .result .count ≤ length (c .play .last .1 .0)
 in-buffer c = laid-in (transcript (c .before .before .before .args .file .now)) _ (c .play .ensures .0)
 
-play-requires : tie.Need-play-requires
-play-requires c κs = search needs
-
 array-share-prefix-out : tie.Need-array-share-prefix-out
 array-share-prefix-out c = in-buffer c
 
 slice-aggregate-write-all : tie.Need-slice-aggregate-write-all
 slice-aggregate-write-all c = sym (length-take-le _ _ (in-buffer (c .before)))
 
-write-all-requires : tie.Need-write-all-requires
-write-all-requires c κs = search needs
-
-returns : tie.Need-returns
-returns c = search needs
-
 pub start-spec : {M : Type 1} → statement M
 start-spec =
     tie.close
     (tie.spec
-    play-requires
-    array-share-prefix-out
-    slice-aggregate-write-all
-    write-all-requires
-    returns)
+    (λ c κs. search needs) array-share-prefix-out slice-aggregate-write-all (λ c κs. search needs) (λ c. search needs))

@@ -12,9 +12,6 @@ use Rattle.places.proofs.SpanLaws.{SpanIn, span-facts, rows-small}
 use Rattle.places.proofs.span_of.Statement.{statement}
 use Rattle.places.proofs.span_of.Tie as tie
 
-has-span-requires : tie.Need-has-span-requires
-has-span-requires c κs = search needs
-
 returns : tie.Need-returns
 unfolding spanOf
 returns c = rw (failed (c .before .has-span .ensures) (c .if1 .taken))
@@ -30,29 +27,11 @@ cells-most c e = rw e (cell-bytes-most _ (limits-facts _ (inside c .in-limits)))
 words-most : (c : tie.Else1) {r : ℕ} → r ≡ wordsOf (c .before .before .args .shape) → r ≤ 1024
 words-most c e = rw e (scale-words-most _ (limits-facts _ (inside c .in-limits)))
 
-cell-bytes-requires : tie.Need-cell-bytes-requires
-cell-bytes-requires c κs = search needs
-
-scale-words-requires : tie.Need-scale-words-requires
-scale-words-requires c κs = search needs
-
-mul-block : tie.Need-mul-block
-mul-block c = search needs
-
-add-block : tie.Need-add-block
-add-block c = search needs
-
-cast-block : tie.Need-cast-block
-cast-block c = search needs
-
 mul-block-2 : tie.Need-mul-block-2
 mul-block-2 c = omega (arith, rows-small (inside (c .before .before .before)) (cells-most (c .before .before .before) (c .before .before .cell-bytes .ensures)))
 
 add-block-2 : tie.Need-add-block-2
 add-block-2 c = omega (arith, rows-small (inside (c .before .before .before)) (cells-most (c .before .before .before) (c .before .before .cell-bytes .ensures)))
-
-cast-first : tie.Need-cast-first
-cast-first c = search needs
 
 mul-first : tie.Need-mul-first
 mul-first c = omega (arith, rows-small (inside (c .before .before .before .before)) (cells-most (c .before .before .before .before) (c .before .before .before .cell-bytes .ensures)))
@@ -83,21 +62,6 @@ pub span-of-spec : {M : Type 1} → statement M
 span-of-spec =
     tie.close
     (tie.spec
-    has-span-requires
-    returns
-    cell-bytes-requires
-    scale-words-requires
-    mul-block
-    add-block
-    cast-block
-    mul-block-2
-    add-block-2
-    cast-first
-    mul-first
-    add-first
-    add-end
-    mul-t19
-    mul-t20
-    mul-t14
-    mul-t18
+    (λ c κs. search needs) returns (λ c κs. search needs) (λ c κs. search needs) (λ c. search needs) (λ c. search needs)
+    (λ c. search needs) mul-block-2 add-block-2 (λ c. search needs) mul-first add-first add-end mul-t19 mul-t20 mul-t14 mul-t18
     returns-2)

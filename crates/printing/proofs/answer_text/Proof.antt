@@ -14,39 +14,21 @@ use Rattle.printing.proofs.answer_text.Tie as tie
 room : (c : tie.Else1) → c .before .before .before .args .at + 2048 ≤ length (c .before .before .before .args .out .now)
 room c = has-room _ _ (c .before .has-line .ensures) (c .if1 .left)
 
-has-line-requires : tie.Need-has-line-requires
-has-line-requires c κs = search needs
-
 returns : tie.Need-returns
 returns c = none-laid _ (answerText (c .before .before .before .args .n)) _ (c .before .has-line .ensures) (c .if1 .taken)
 
-slice-aggregate-put : tie.Need-slice-aggregate-put
-slice-aggregate-put c = search needs
-
 put-requires : tie.Need-put-requires
 put-requires c κs = omega (arith, room (c .before .before .before))
-
-same-length : tie.Need-same-length
-same-length c = search needs
 
 returns-2 : tie.Need-returns-2
 unfolding answerText
 returns-2 c = rw (eq-eqb (c .before .before .before .before .before .before .before .before .before .args .n) 0 (c .before .before .before .before .before .if2 .taken)) (placed-laid-at (room (c .before .before .before .before .before .before)) (c .before .before .put .ensures))
 
-slice-aggregate-put-named : tie.Need-slice-aggregate-put-named
-slice-aggregate-put-named c = search needs
-
 put-named-requires : tie.Need-put-named-requires
 put-named-requires c κs = omega (arith, room (c .before .before .before))
 
-slice-aggregate-put-2 : tie.Need-slice-aggregate-put-2
-slice-aggregate-put-2 c = search needs
-
 put-requires-2 : tie.Need-put-requires-2
 put-requires-2 c κs = omega (arith, room (c .before .before .before .before .before .before .before .before))
-
-same-length-2 : tie.Need-same-length-2
-same-length-2 c = search needs
 
 returns-3 : tie.Need-returns-3
 unfolding answerText
@@ -59,15 +41,5 @@ pub answer-text-spec : {M : Type 1} → statement M
 answer-text-spec =
     tie.close
     (tie.spec
-    has-line-requires
-    returns
-    slice-aggregate-put
-    put-requires
-    same-length
-    returns-2
-    slice-aggregate-put-named
-    put-named-requires
-    slice-aggregate-put-2
-    put-requires-2
-    same-length-2
-    returns-3)
+    (λ c κs. search needs) returns (λ c. search needs) put-requires (λ c. search needs) returns-2 (λ c. search needs)
+    put-named-requires (λ c. search needs) put-requires-2 (λ c. search needs) returns-3)

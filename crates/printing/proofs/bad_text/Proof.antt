@@ -13,26 +13,14 @@ use Rattle.printing.proofs.bad_text.Tie as tie
 room : (c : tie.Else1) → c .before .before .before .args .at + 2048 ≤ length (c .before .before .before .args .out .now)
 room c = has-room _ _ (c .before .has-line .ensures) (c .if1 .left)
 
-has-line-requires : tie.Need-has-line-requires
-has-line-requires c κs = search needs
-
 returns : tie.Need-returns
 returns c = none-laid _ (badText (c .before .before .before .args .n)) _ (c .before .has-line .ensures) (c .if1 .taken)
-
-slice-aggregate-put-named : tie.Need-slice-aggregate-put-named
-slice-aggregate-put-named c = search needs
 
 put-named-requires : tie.Need-put-named-requires
 put-named-requires c κs = omega (arith, room (c .before .before))
 
-slice-aggregate-put : tie.Need-slice-aggregate-put
-slice-aggregate-put c = search needs
-
 put-requires : tie.Need-put-requires
 put-requires c κs = omega (arith, room (c .before .before .before .before .before .before .before))
-
-same-length : tie.Need-same-length
-same-length c = search needs
 
 returns-2 : tie.Need-returns-2
 unfolding badText
@@ -44,11 +32,5 @@ pub bad-text-spec : {M : Type 1} → statement M
 bad-text-spec =
     tie.close
     (tie.spec
-    has-line-requires
-    returns
-    slice-aggregate-put-named
-    put-named-requires
-    slice-aggregate-put
-    put-requires
-    same-length
+    (λ c κs. search needs) returns (λ c. search needs) put-named-requires (λ c. search needs) put-requires (λ c. search needs)
     returns-2)

@@ -6,19 +6,11 @@ use borrow.Author.Needs.{needs}
 use Rattle.printing.proofs.put_named.Statement.{statement}
 use Rattle.printing.proofs.put_named.Tie as tie
 
-put-requires : tie.Need-put-requires
-put-requires c κs = search needs
-
-put-number-requires : tie.Need-put-number-requires
-put-number-requires c κs = search needs
-
-same-length : tie.Need-same-length
-same-length c = search needs
-
 returns : tie.Need-returns
 returns c =
     let w = decimal-length (c .before .before .before .before .before .before .before .before .before .before .args .n) in
     (placed-then (c .before .before .before .before .before .before .put .ensures) (c .before .before .put-number .ensures) (omega arith), omega arith)
 
 pub put-named-spec : {M : Type 1} → statement M
-put-named-spec = tie.close (tie.spec put-requires put-number-requires same-length returns)
+put-named-spec =
+    tie.close (tie.spec (λ c κs. search needs) (λ c κs. search needs) (λ c. search needs) returns)

@@ -13,28 +13,16 @@ use Rattle.printing.proofs.report_text.Tie as tie
 room : (c : tie.Else1) → c .before .before .before .args .at + 2048 ≤ length (c .before .before .before .args .out .now)
 room c = has-room _ _ (c .before .has-line .ensures) (c .if1 .left)
 
-has-line-requires : tie.Need-has-line-requires
-has-line-requires c κs = search needs
-
 returns : tie.Need-returns
 returns c =
     let a = c .before .before .before .args in
     none-laid _ (reportText (a .seq) (a .bytes) (take (a .layers) (a .lens .now))) _ (c .before .has-line .ensures) (c .if1 .taken)
 
-slice-aggregate-put-named : tie.Need-slice-aggregate-put-named
-slice-aggregate-put-named c = search needs
-
 put-named-requires : tie.Need-put-named-requires
 put-named-requires c κs = omega (arith, room (c .before .before))
 
-slice-aggregate-put-named-2 : tie.Need-slice-aggregate-put-named-2
-slice-aggregate-put-named-2 c = search needs
-
 put-named-requires-2 : tie.Need-put-named-requires-2
 put-named-requires-2 c κs = omega (arith, room (c .before .before .before .before .before .before .before))
-
-slice-aggregate-put : tie.Need-slice-aggregate-put
-slice-aggregate-put c = search needs
 
 put-requires : tie.Need-put-requires
 put-requires c κs = omega (arith, room (c .before .before .before .before .before .before .before .before .before .before .before .before))
@@ -42,14 +30,8 @@ put-requires c κs = omega (arith, room (c .before .before .before .before .befo
 put-lengths-requires : tie.Need-put-lengths-requires
 put-lengths-requires c κs = omega (arith, room (c .before .before .before .before .before .before .before .before .before .before .before .before .before .before .before .before .before))
 
-slice-aggregate-put-2 : tie.Need-slice-aggregate-put-2
-slice-aggregate-put-2 c = search needs
-
 put-requires-2 : tie.Need-put-requires-2
 put-requires-2 c κs = omega (arith, room (c .before .before .before .before .before .before .before .before .before .before .before .before .before .before .before .before .before .before .before .before .before .before))
-
-same-length : tie.Need-same-length
-same-length c = search needs
 
 returns-2 : tie.Need-returns-2
 unfolding reportText
@@ -66,16 +48,5 @@ pub report-text-spec : {M : Type 1} → statement M
 report-text-spec =
     tie.close
     (tie.spec
-    has-line-requires
-    returns
-    slice-aggregate-put-named
-    put-named-requires
-    slice-aggregate-put-named-2
-    put-named-requires-2
-    slice-aggregate-put
-    put-requires
-    put-lengths-requires
-    slice-aggregate-put-2
-    put-requires-2
-    same-length
-    returns-2)
+    (λ c κs. search needs) returns (λ c. search needs) put-named-requires (λ c. search needs) put-named-requires-2
+    (λ c. search needs) put-requires put-lengths-requires (λ c. search needs) put-requires-2 (λ c. search needs) returns-2)

@@ -5,21 +5,6 @@ use Rattle.replay.specs.Transcript.{Play}
 use Rattle.replay.proofs.play.Statement.{statement}
 use Rattle.replay.proofs.play.Tie as tie
 
-no-cells-requires : tie.Need-no-cells-requires
-no-cells-requires c κs = search needs
-
-no-scales-requires : tie.Need-no-scales-requires
-no-scales-requires c κs = search needs
-
-slice-aggregate-play-in : tie.Need-slice-aggregate-play-in
-slice-aggregate-play-in c = search needs
-
-slice-aggregate-play-in-2 : tie.Need-slice-aggregate-play-in-2
-slice-aggregate-play-in-2 c = search needs
-
-play-in-requires : tie.Need-play-in-requires
-play-in-requires c κs = search needs
-
 returns : tie.Need-returns
 returns c =
     let e = rw (c .before .before .before .before .before .before .before .no-cells .ensures, c .before .before .before .before .before .before .no-scales .ensures) at (c .before .before .play-in .ensures) in
@@ -29,9 +14,4 @@ pub play-spec : {M : Type 1} → statement M
 play-spec =
     tie.close
     (tie.spec
-    no-cells-requires
-    no-scales-requires
-    slice-aggregate-play-in
-    slice-aggregate-play-in-2
-    play-in-requires
-    returns)
+    (λ c κs. search needs) (λ c κs. search needs) (λ c. search needs) (λ c. search needs) (λ c κs. search needs) returns)

@@ -11,12 +11,6 @@ use Rattle.replay.specs.Transcript.{start, playOf}
 use Rattle.replay.proofs.play_in.Statement.{statement}
 use Rattle.replay.proofs.play_in.Tie as tie
 
-bad-text-requires : tie.Need-bad-text-requires
-bad-text-requires c κs = search needs
-
-not-open-requires : tie.Need-not-open-requires
-not-open-requires c κs = search needs
-
 returns : tie.Need-returns
 unfolding playOf
 returns c =
@@ -24,15 +18,6 @@ returns c =
     rw (lt-leb _ 16384 (c .before .before .before .if1 .taken), c .not-open .ensures)
     (ap (λ (l : Laid). record { last = walk 16384 (start (buffers (a .cells .now) (a .scales .now)) .cache); text = l })
     (c .before .bad-text .ensures ∙ laid-first (badText 16384) (a .out .now) (omega arith)))
-
-walk-file-requires : tie.Need-walk-file-requires
-walk-file-requires c κs = search needs
-
-same-length : tie.Need-same-length
-same-length c = search needs
-
-same-length-2 : tie.Need-same-length-2
-same-length-2 c = search needs
 
 returns-2 : tie.Need-returns-2
 unfolding playOf
@@ -42,10 +27,4 @@ pub play-in-spec : {M : Type 1} → statement M
 play-in-spec =
     tie.close
     (tie.spec
-    bad-text-requires
-    not-open-requires
-    returns
-    walk-file-requires
-    same-length
-    same-length-2
-    returns-2)
+    (λ c κs. search needs) (λ c κs. search needs) returns (λ c κs. search needs) (λ c. search needs) (λ c. search needs) returns-2)

@@ -6,12 +6,6 @@ use borrow.Author.Needs.{needs}
 use Rattle.replay.proofs.report.Statement.{statement}
 use Rattle.replay.proofs.report.Tie as tie
 
-memory-bytes-requires : tie.Need-memory-bytes-requires
-memory-bytes-requires c κs = search needs
-
-number-requires : tie.Need-number-requires
-number-requires c κs = search needs
-
 returns : tie.Need-returns
 unfolding reportOf
 returns c =
@@ -23,4 +17,5 @@ returns-2 c =
     rw (← c .before .before .memory-bytes .ensures, eq-eqb _ 0 (sym (c .before .number .ensures) ∙ c .if1 .left))
 
 pub report-spec : {M : Type 1} → statement M
-report-spec = tie.close (tie.spec memory-bytes-requires number-requires returns returns-2)
+report-spec =
+    tie.close (tie.spec (λ c κs. search needs) (λ c κs. search needs) returns returns-2)

@@ -4,21 +4,6 @@ use Rattle.replay.proofs.StepLaws.{side-length, side-read}
 use Rattle.replay.proofs.side_at.Statement.{statement}
 use Rattle.replay.proofs.side_at.Tie as tie
 
-no-numbers-requires : tie.Need-no-numbers-requires
-no-numbers-requires c κs = search needs
-
-sub-read-words : tie.Need-sub-read-words
-sub-read-words c = search needs
-
-part-side-start : tie.Need-part-side-start
-part-side-start c = search needs
-
-part-side-end : tie.Need-part-side-end
-part-side-end c = search needs
-
-read-words-requires : tie.Need-read-words-requires
-read-words-requires c κs = search needs
-
 returns : tie.Need-returns
 returns c =
     let s = c .before .before .before .before .before in
@@ -32,9 +17,4 @@ pub side-at-spec : {M : Type 1} → statement M
 side-at-spec =
     tie.close
     (tie.spec
-    no-numbers-requires
-    sub-read-words
-    part-side-start
-    part-side-end
-    read-words-requires
-    returns)
+    (λ c κs. search needs) (λ c. search needs) (λ c. search needs) (λ c. search needs) (λ c κs. search needs) returns)

@@ -24,26 +24,14 @@ tested c = not-false _ (c .if1 .left)
 few : (c : tie.Else1) → (c .before .args .d ≤ 256) × (c .before .args .m ≤ 4096)
 few c = let t = both _ _ (tested c) in (leb-true _ 256 (t .0), leb-true _ 4096 (t .1))
 
-is-known-requires : tie.Need-is-known-requires
-is-known-requires c κs = search needs
-
-whole-groups-requires : tie.Need-whole-groups-requires
-whole-groups-requires c κs = search needs
-
 cast-cell-bytes : tie.Need-cast-cell-bytes
 cast-cell-bytes c = omega (arith, few (c .before .before))
-
-cell-bytes-requires : tie.Need-cell-bytes-requires
-cell-bytes-requires c κs = search needs
 
 mul-result : tie.Need-mul-result
 mul-result c = let k = few (c .before .before .before) in omega (arith, rows-small (k .1) (row-most _ _ (k .0) .0) (c .cell-bytes .ensures))
 
 cast-scale-words : tie.Need-cast-scale-words
 cast-scale-words c = omega (arith, few (c .before .before .before))
-
-scale-words-requires : tie.Need-scale-words-requires
-scale-words-requires c κs = search needs
 
 mul-result-2 : tie.Need-mul-result-2
 mul-result-2 c = let k = few (c .before .before .before .before) in omega (arith, rows-small (k .1) (row-most _ _ (k .0) .1) (c .scale-words .ensures))
@@ -63,13 +51,5 @@ pub rows-fit-spec : {M : Type 1} → statement M
 rows-fit-spec =
     tie.close
     (tie.spec
-    returns
-    is-known-requires
-    whole-groups-requires
-    cast-cell-bytes
-    cell-bytes-requires
-    mul-result
-    cast-scale-words
-    scale-words-requires
-    mul-result-2
-    returns-2)
+    returns (λ c κs. search needs) (λ c κs. search needs) cast-cell-bytes (λ c κs. search needs) mul-result cast-scale-words
+    (λ c κs. search needs) mul-result-2 returns-2)

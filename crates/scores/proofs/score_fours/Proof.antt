@@ -24,9 +24,6 @@ loop-holds : tie.Need-loop-holds Inv-loop μ-loop
 unfolding tab
 loop-holds c = search needs
 
-sub-loop : tie.Need-sub-loop Inv-loop μ-loop
-sub-loop c = search needs
-
 cells-of-requires : tie.Need-cells-of-requires Inv-loop μ-loop
 cells-of-requires c κs =
     let k = c .before in
@@ -45,30 +42,6 @@ score-four-requires c κs =
     let start = k .before .before .before .before .before in
     part-rows _ _ _ (start .args .cells .now) (start .args .scales .now) (start .pre .0) (k .loop .p) 4 (omega arith) (start .pre .1) (start .pre .2) refl (c .before .cells-of .ensures) (c .scales-of .ensures)
 
-add-put-four : tie.Need-add-put-four Inv-loop μ-loop
-add-put-four c = search needs
-
-mul-put-four : tie.Need-mul-put-four Inv-loop μ-loop
-mul-put-four c = search needs
-
-sub-put-four : tie.Need-sub-put-four Inv-loop μ-loop
-sub-put-four c = search needs
-
-part-put-four-start : tie.Need-part-put-four-start Inv-loop μ-loop
-part-put-four-start c = search needs
-
-part-put-four-end : tie.Need-part-put-four-end Inv-loop μ-loop
-part-put-four-end c = search needs
-
-put-four-requires : tie.Need-put-four-requires Inv-loop μ-loop
-put-four-requires c κs = search needs
-
-add-p : tie.Need-add-p Inv-loop μ-loop
-add-p c = search needs
-
-loop-less : tie.Need-loop-less Inv-loop μ-loop
-loop-less c = search needs
-
 loop-again : tie.Need-loop-again Inv-loop μ-loop
 loop-again c =
     let four = c .before .before .before .before in
@@ -84,9 +57,6 @@ loop-again c =
       search needs,
     )
 
-same-length : tie.Need-same-length Inv-loop μ-loop
-same-length c = search needs
-
 returns : tie.Need-returns Inv-loop μ-loop
 unfolding blockScores scoresOf
 returns c = (c .before .loop .inv .0, c .before .loop .inv .1)
@@ -95,21 +65,6 @@ pub score-fours-spec : {M : Type 1} → statement M
 score-fours-spec =
     tie.close
     (tie.spec
-    Inv-loop
-    μ-loop
-    loop-holds
-    sub-loop
-    cells-of-requires
-    scales-of-requires
-    score-four-requires
-    add-put-four
-    mul-put-four
-    sub-put-four
-    part-put-four-start
-    part-put-four-end
-    put-four-requires
-    add-p
-    loop-less
-    loop-again
-    same-length
-    returns)
+    Inv-loop μ-loop loop-holds (λ c. search needs) cells-of-requires scales-of-requires score-four-requires (λ c. search needs)
+    (λ c. search needs) (λ c. search needs) (λ c. search needs) (λ c. search needs) (λ c κs. search needs) (λ c. search needs)
+    (λ c. search needs) loop-again (λ c. search needs) returns)

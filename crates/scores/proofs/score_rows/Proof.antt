@@ -28,38 +28,17 @@ inside c =
 cast-cell-bytes : tie.Need-cast-cell-bytes
 cast-cell-bytes c = omega (arith, fits-facts (c .before .before .before .before .pre .1) .small)
 
-cell-bytes-requires : tie.Need-cell-bytes-requires
-cell-bytes-requires c κs = search needs
-
 cast-scale-words : tie.Need-cast-scale-words
 cast-scale-words c = omega (arith, fits-facts (c .before .before .before .before .before .pre .1) .small)
 
-scale-words-requires : tie.Need-scale-words-requires
-scale-words-requires c κs = search needs
-
 score-fours-requires : tie.Need-score-fours-requires
 score-fours-requires c κs = (c .before .before .before .before .before .before .before .pre, c .before .before .cell-bytes .ensures, c .before .scale-words .ensures)
-
-sub-n : tie.Need-sub-n
-sub-n c = search needs
 
 cells-of-requires : tie.Need-cells-of-requires
 cells-of-requires c κs = inside (c .before .before) .0
 
 scales-of-requires : tie.Need-scales-of-requires
 scales-of-requires c κs = inside (c .before .before .before) .1
-
-mul-score-rest : tie.Need-mul-score-rest
-mul-score-rest c = search needs
-
-sub-score-rest : tie.Need-sub-score-rest
-sub-score-rest c = search needs
-
-part-score-rest-start : tie.Need-part-score-rest-start
-part-score-rest-start c = search needs
-
-part-score-rest-end : tie.Need-part-score-rest-end
-part-score-rest-end c = search needs
 
 score-rest-requires : tie.Need-score-rest-requires
 score-rest-requires c κs =
@@ -73,9 +52,6 @@ score-rest-requires c κs =
       r,
       v,
     )
-
-same-length : tie.Need-same-length
-same-length c = search needs
 
 returns : tie.Need-returns
 unfolding blockScores scoresOf
@@ -97,18 +73,6 @@ pub score-rows-spec : {M : Type 1} → statement M
 score-rows-spec =
     tie.close
     (tie.spec
-    cast-cell-bytes
-    cell-bytes-requires
-    cast-scale-words
-    scale-words-requires
-    score-fours-requires
-    sub-n
-    cells-of-requires
-    scales-of-requires
-    mul-score-rest
-    sub-score-rest
-    part-score-rest-start
-    part-score-rest-end
-    score-rest-requires
-    same-length
-    returns)
+    cast-cell-bytes (λ c κs. search needs) cast-scale-words (λ c κs. search needs) score-fours-requires (λ c. search needs)
+    cells-of-requires scales-of-requires (λ c. search needs) (λ c. search needs) (λ c. search needs) (λ c. search needs)
+    score-rest-requires (λ c. search needs) returns)

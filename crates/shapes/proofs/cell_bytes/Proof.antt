@@ -8,12 +8,6 @@ use borrow.Author.Needs.{needs}
 use Rattle.shapes.proofs.cell_bytes.Statement.{statement}
 use Rattle.shapes.proofs.cell_bytes.Tie as tie
 
-mul-result : tie.Need-mul-result
-mul-result c = search needs
-
-mul-result-2 : tie.Need-mul-result-2
-mul-result-2 c = search needs
-
 returns : tie.Need-returns
 unfolding cellBytes layouts
 returns c = rw (c .match .keys1)
@@ -36,4 +30,4 @@ returns-5 c = sym (ap (λ (f : Layout). f .bytes (c .before .args .«head-size»
 
 pub cell-bytes-spec : {M : Type 1} → statement M
 cell-bytes-spec =
-    tie.close (tie.spec mul-result mul-result-2 returns returns-2 returns-3 returns-4 returns-5)
+    tie.close (tie.spec (λ c. search needs) (λ c. search needs) returns returns-2 returns-3 returns-4 returns-5)

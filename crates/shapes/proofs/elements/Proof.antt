@@ -7,20 +7,8 @@ use Rattle.shapes.proofs.ShapeLaws.{limits-facts, total-small}
 use Rattle.shapes.proofs.elements.Statement.{statement}
 use Rattle.shapes.proofs.elements.Tie as tie
 
-cast-result : tie.Need-cast-result
-cast-result c = search needs
-
-mul-result : tie.Need-mul-result
-mul-result c = search needs
-
-cast-result-2 : tie.Need-cast-result-2
-cast-result-2 c = search needs
-
 mul-result-2 : tie.Need-mul-result-2
 mul-result-2 c = record { fits = omega (arith, total-small _ _ (limits-facts _ (c .before .before .pre .0)) (c .before .before .pre .1)) }
-
-cast-result-3 : tie.Need-cast-result-3
-cast-result-3 c = search needs
 
 mul-result-3 : tie.Need-mul-result-3
 mul-result-3 c = record { fits = omega (arith, total-small _ _ (limits-facts _ (c .before .before .before .pre .0)) (c .before .before .before .pre .1)) }
@@ -33,4 +21,7 @@ unfolding total
 returns c = refl
 
 pub elements-spec : {M : Type 1} → statement M
-elements-spec = tie.close (tie.spec cast-result mul-result cast-result-2 mul-result-2 cast-result-3 mul-result-3 mul-result-4 returns)
+elements-spec =
+    tie.close
+    (tie.spec
+    (λ c. search needs) (λ c. search needs) (λ c. search needs) mul-result-2 (λ c. search needs) mul-result-3 mul-result-4 returns)

@@ -6,15 +6,9 @@ use borrow.Author.Needs.{needs}
 use Rattle.shapes.proofs.is_within.Statement.{statement}
 use Rattle.shapes.proofs.is_within.Tie as tie
 
-in-limits-requires : tie.Need-in-limits-requires
-in-limits-requires c κs = search needs
-
 returns : tie.Need-returns
 unfolding within
 returns c = rw (failed (c .before .in-limits .ensures) (c .if1 .taken))
-
-cell-bytes-requires : tie.Need-cell-bytes-requires
-cell-bytes-requires c κs = search needs
 
 elements-requires : tie.Need-elements-requires
 elements-requires c κs = let h = passed (c .before .before .in-limits .ensures) (c .before .if1 .left) in (h, rw (c .cell-bytes .ensures) (cell-bytes-most _ (limits-facts _ h)))
@@ -25,4 +19,4 @@ returns-2 c = rw (passed (c .before .before .before .in-limits .ensures) (c .bef
 
 pub is-within-spec : {M : Type 1} → statement M
 is-within-spec =
-    tie.close (tie.spec in-limits-requires returns cell-bytes-requires elements-requires returns-2)
+    tie.close (tie.spec (λ c κs. search needs) returns (λ c κs. search needs) elements-requires returns-2)

@@ -5,9 +5,6 @@ use borrow.Author.Needs.{needs}
 use Rattle.shapes.proofs.need_of.Statement.{statement}
 use Rattle.shapes.proofs.need_of.Tie as tie
 
-is-within-requires : tie.Need-is-within-requires
-is-within-requires c κs = search needs
-
 returns : tie.Need-returns
 unfolding needOf
 returns c = rw (failed (c .before .is-within .ensures) (c .if1 .taken))
@@ -20,4 +17,5 @@ unfolding needOf
 returns-2 c = rw (passed (c .before .before .is-within .ensures) (c .before .if1 .left), ← c .totals .ensures .0, ← c .totals .ensures .1)
 
 pub need-of-spec : {M : Type 1} → statement M
-need-of-spec = tie.close (tie.spec is-within-requires returns totals-requires returns-2)
+need-of-spec =
+    tie.close (tie.spec (λ c κs. search needs) returns totals-requires returns-2)

@@ -6,9 +6,6 @@ use borrow.Author.Needs.{needs}
 use Rattle.shapes.proofs.room_reply.Statement.{statement}
 use Rattle.shapes.proofs.room_reply.Tie as tie
 
-is-within-requires : tie.Need-is-within-requires
-is-within-requires c κs = search needs
-
 returns : tie.Need-returns
 unfolding lowest
 returns c = rw (failed (c .before .is-within .ensures) (c .if1 .taken))
@@ -26,4 +23,4 @@ returns-3 c = rw (passed (c .before .before .before .before .before .is-within .
 
 pub room-reply-spec : {M : Type 1} → statement M
 room-reply-spec =
-    tie.close (tie.spec is-within-requires returns totals-requires returns-2 returns-3)
+    tie.close (tie.spec (λ c κs. search needs) returns totals-requires returns-2 returns-3)

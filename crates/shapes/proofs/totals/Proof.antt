@@ -4,14 +4,8 @@ use borrow.Author.Needs.{needs}
 use Rattle.shapes.proofs.totals.Statement.{statement}
 use Rattle.shapes.proofs.totals.Tie as tie
 
-cell-bytes-requires : tie.Need-cell-bytes-requires
-cell-bytes-requires c κs = search needs
-
 elements-requires : tie.Need-elements-requires
 elements-requires c κs = let h = within-limits _ (c .before .pre) in (h, rw (c .cell-bytes .ensures) (cell-bytes-most _ (limits-facts _ h)))
-
-scale-words-requires : tie.Need-scale-words-requires
-scale-words-requires c κs = search needs
 
 elements-requires-2 : tie.Need-elements-requires-2
 elements-requires-2 c κs = let h = within-limits _ (c .before .before .before .pre) in (h, rw (c .scale-words .ensures) (scale-words-most _ (limits-facts _ h)))
@@ -21,10 +15,4 @@ returns c = (rw (c .before .before .elements .ensures, c .before .before .before
 
 pub totals-spec : {M : Type 1} → statement M
 totals-spec =
-    tie.close
-    (tie.spec
-    cell-bytes-requires
-    elements-requires
-    scale-words-requires
-    elements-requires-2
-    returns)
+    tie.close (tie.spec (λ c κs. search needs) elements-requires (λ c κs. search needs) elements-requires-2 returns)

@@ -6,9 +6,6 @@ use borrow.Author.Needs.{needs}
 use Rattle.sums.proofs.block_sums.Statement.{statement}
 use Rattle.sums.proofs.block_sums.Tie as tie
 
-block-fits-requires : tie.Need-block-fits-requires
-block-fits-requires c κs = search needs
-
 returns : tie.Need-returns
 unfolding blockSumsOf
 returns c = rw (failed (c .before .block-fits .ensures) (c .if1 .taken))
@@ -16,13 +13,10 @@ returns c = rw (failed (c .before .block-fits .ensures) (c .if1 .taken))
 sum-rows-requires : tie.Need-sum-rows-requires
 sum-rows-requires c κs = both _ _ (passed (c .before .before .block-fits .ensures) (c .before .if1 .left))
 
-same-length : tie.Need-same-length
-same-length c = search needs
-
 returns-2 : tie.Need-returns-2
 unfolding blockSumsOf
 returns-2 c = tried-done _ _ (passed (c .before .before .before .before .before .block-fits .ensures) (c .before .before .before .before .if1 .left)) (c .before .before .sum-rows .ensures)
 
 pub block-sums-spec : {M : Type 1} → statement M
 block-sums-spec =
-    tie.close (tie.spec block-fits-requires returns sum-rows-requires same-length returns-2)
+    tie.close (tie.spec (λ c κs. search needs) returns sum-rows-requires (λ c. search needs) returns-2)

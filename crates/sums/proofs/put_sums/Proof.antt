@@ -23,32 +23,8 @@ loop-holds : tie.Need-loop-holds Inv-loop μ-loop
 unfolding tab
 loop-holds c = (refl, omega arith, refl)
 
-mul-f32-to-word : tie.Need-mul-f32-to-word Inv-loop μ-loop
-mul-f32-to-word c = search needs
-
-shared-slice-read-f32-to-word : tie.Need-shared-slice-read-f32-to-word Inv-loop μ-loop
-shared-slice-read-f32-to-word c = search needs
-
-f32-to-word-requires : tie.Need-f32-to-word-requires Inv-loop μ-loop
-f32-to-word-requires c κs = search needs
-
-mul-out : tie.Need-mul-out Inv-loop μ-loop
-mul-out c = search needs
-
-slice-write-out : tie.Need-slice-write-out Inv-loop μ-loop
-slice-write-out c = search needs
-
-add-i : tie.Need-add-i Inv-loop μ-loop
-add-i c = search needs
-
-loop-less : tie.Need-loop-less Inv-loop μ-loop
-loop-less c = search needs
-
 loop-again : tie.Need-loop-again Inv-loop μ-loop
 loop-again c = (tab-set _ _ _ (omega arith) (c .before .before .before .loop .inv .0) (c .f32-to-word .ensures), omega arith, search needs)
-
-same-length : tie.Need-same-length Inv-loop μ-loop
-same-length c = search needs
 
 returns : tie.Need-returns Inv-loop μ-loop
 returns c =
@@ -59,16 +35,5 @@ pub put-sums-spec : {M : Type 1} → statement M
 put-sums-spec =
     tie.close
     (tie.spec
-    Inv-loop
-    μ-loop
-    loop-holds
-    mul-f32-to-word
-    shared-slice-read-f32-to-word
-    f32-to-word-requires
-    mul-out
-    slice-write-out
-    add-i
-    loop-less
-    loop-again
-    same-length
-    returns)
+    Inv-loop μ-loop loop-holds (λ c. search needs) (λ c. search needs) (λ c κs. search needs) (λ c. search needs)
+    (λ c. search needs) (λ c. search needs) (λ c. search needs) loop-again (λ c. search needs) returns)

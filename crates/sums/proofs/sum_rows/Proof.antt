@@ -33,15 +33,6 @@ lent c =
 sums-lent : (d : ℕ) (y r : List Float) → length y ≡ d → take (d - 0) (y ++ r) ≡ y
 sums-lent d y r e = let z : d - 0 ≡ d = omega arith in rw z (take-at y r d e)
 
-no-sums-requires : tie.Need-no-sums-requires
-no-sums-requires c κs = search needs
-
-sub-add-rows : tie.Need-sub-add-rows
-sub-add-rows c = search needs
-
-part-sums-start : tie.Need-part-sums-start
-part-sums-start c = search needs
-
 part-sums-end : tie.Need-part-sums-end
 part-sums-end c = omega (arith, fits-facts (c .before .before .before .before .before .pre .1) .small)
 
@@ -51,20 +42,8 @@ add-rows-requires c κs =
     let d = length (start .args .out .now) in
     rw (zeros d (fits-facts (start .pre .1) .small) (c .before .no-sums .ensures), length-replicate) (start .pre)
 
-sub-put-sums : tie.Need-sub-put-sums
-sub-put-sums c = search needs
-
-part-put-sums-start : tie.Need-part-put-sums-start
-part-put-sums-start c = search needs
-
 part-put-sums-end : tie.Need-part-put-sums-end
 part-put-sums-end c = simp length-append (omega (arith, lent (c .before .before) .1))
-
-put-sums-requires : tie.Need-put-sums-requires
-put-sums-requires c κs = search needs
-
-same-length : tie.Need-same-length
-same-length c = search needs
 
 returns : tie.Need-returns
 unfolding blockSums
@@ -79,14 +58,5 @@ pub sum-rows-spec : {M : Type 1} → statement M
 sum-rows-spec =
     tie.close
     (tie.spec
-    no-sums-requires
-    sub-add-rows
-    part-sums-start
-    part-sums-end
-    add-rows-requires
-    sub-put-sums
-    part-put-sums-start
-    part-put-sums-end
-    put-sums-requires
-    same-length
-    returns)
+    (λ c κs. search needs) (λ c. search needs) (λ c. search needs) part-sums-end add-rows-requires (λ c. search needs)
+    (λ c. search needs) part-put-sums-end (λ c κs. search needs) (λ c. search needs) returns)

@@ -10,9 +10,6 @@ returns : tie.Need-returns
 unfolding digitOf
 returns c = let b = c .before .args .b in rw (lt-leb 48 b (c .if1 .taken), lt-leb 65 b (omega arith))
 
-cast-result : tie.Need-cast-result
-cast-result c = search needs
-
 returns-2 : tie.Need-returns-2
 unfolding digitOf
 returns-2 c = let b = c .before .before .args .b in rw (le-leb 48 b (c .before .if1 .left), le-leb b 57 (c .if2 .taken))
@@ -20,12 +17,6 @@ returns-2 c = let b = c .before .before .args .b in rw (le-leb 48 b (c .before .
 returns-3 : tie.Need-returns-3
 unfolding digitOf
 returns-3 c = let b = c .before .before .before .args .b in rw (le-leb 48 b (omega arith), lt-leb b 57 (omega arith), lt-leb 65 b (c .if3 .taken))
-
-cast-result-2 : tie.Need-cast-result-2
-cast-result-2 c = search needs
-
-add-result : tie.Need-add-result
-add-result c = search needs
 
 returns-4 : tie.Need-returns-4
 unfolding digitOf
@@ -37,5 +28,4 @@ returns-5 c = let b = c .before .before .before .before .args .b in rw (le-leb 4
 
 pub digit-spec : {M : Type 1} → statement M
 digit-spec =
-    tie.close
-    (tie.spec returns cast-result returns-2 returns-3 cast-result-2 add-result returns-4 returns-5)
+    tie.close (tie.spec returns (λ c. search needs) returns-2 returns-3 (λ c. search needs) (λ c. search needs) returns-4 returns-5)

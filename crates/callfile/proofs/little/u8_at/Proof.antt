@@ -5,9 +5,6 @@ use Rattle.callfile.proofs.FormatLaws.{number-byte}
 use Rattle.callfile.proofs.little.u8_at.Statement.{statement}
 use Rattle.callfile.proofs.little.u8_at.Tie as tie
 
-shared-slice-read-result : tie.Need-shared-slice-read-result
-shared-slice-read-result c = search needs
-
 cast-result : tie.Need-cast-result
 cast-result c = omega (arith, c .shared-slice-known .given (c .before .args .at))
 
@@ -17,4 +14,5 @@ returns c =
     (omega (arith, number-byte (a .file .now) (a .at) (omega arith)), omega (arith, c .shared-slice-known .given (a .at)))
 
 pub u8-at-spec : {M : Type 1} → statement M
-u8-at-spec = tie.close (tie.spec shared-slice-read-result cast-result returns)
+u8-at-spec =
+    tie.close (tie.spec (λ c. search needs) cast-result returns)

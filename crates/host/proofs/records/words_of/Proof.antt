@@ -16,48 +16,9 @@ Inv-loop «record» w₀ i₀ w i = (i ≤ 128) × (w ≡ front «record» ++ co
 abbrev μ-loop : tie.MeasureT-loop
 μ-loop «record» w₀ i₀ w i = 128 - i
 
-array-write-w : tie.Need-array-write-w Inv-loop μ-loop
-array-write-w c = search needs
-
-array-write-w-2 : tie.Need-array-write-w-2 Inv-loop μ-loop
-array-write-w-2 c = search needs
-
-array-write-w-3 : tie.Need-array-write-w-3 Inv-loop μ-loop
-array-write-w-3 c = search needs
-
-array-write-w-4 : tie.Need-array-write-w-4 Inv-loop μ-loop
-array-write-w-4 c = search needs
-
-array-write-w-5 : tie.Need-array-write-w-5 Inv-loop μ-loop
-array-write-w-5 c = search needs
-
-array-write-w-6 : tie.Need-array-write-w-6 Inv-loop μ-loop
-array-write-w-6 c = search needs
-
 loop-holds : tie.Need-loop-holds Inv-loop μ-loop
 unfolding tab
 loop-holds c = search needs
-
-mul-w : tie.Need-mul-w Inv-loop μ-loop
-mul-w c = search needs
-
-element-copy-out-w : tie.Need-element-copy-out-w Inv-loop μ-loop
-element-copy-out-w c = search needs
-
-add-w : tie.Need-add-w Inv-loop μ-loop
-add-w c = search needs
-
-mul-w-2 : tie.Need-mul-w-2 Inv-loop μ-loop
-mul-w-2 c = search needs
-
-array-write-w-7 : tie.Need-array-write-w-7 Inv-loop μ-loop
-array-write-w-7 c = search needs
-
-add-i : tie.Need-add-i Inv-loop μ-loop
-add-i c = search needs
-
-loop-less : tie.Need-loop-less Inv-loop μ-loop
-loop-less c = search needs
 
 loop-again : tie.Need-loop-again Inv-loop μ-loop
 loop-again c =
@@ -77,21 +38,6 @@ pub words-of-spec : {M : Type 1} → statement M
 words-of-spec =
     tie.close
     (tie.spec
-    Inv-loop
-    μ-loop
-    array-write-w
-    array-write-w-2
-    array-write-w-3
-    array-write-w-4
-    array-write-w-5
-    array-write-w-6
-    loop-holds
-    mul-w
-    element-copy-out-w
-    add-w
-    mul-w-2
-    array-write-w-7
-    add-i
-    loop-less
-    loop-again
-    returns)
+    Inv-loop μ-loop (λ c. search needs) (λ c. search needs) (λ c. search needs) (λ c. search needs) (λ c. search needs)
+    (λ c. search needs) loop-holds (λ c. search needs) (λ c. search needs) (λ c. search needs) (λ c. search needs)
+    (λ c. search needs) (λ c. search needs) (λ c. search needs) loop-again returns)

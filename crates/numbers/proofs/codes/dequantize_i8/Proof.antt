@@ -5,15 +5,10 @@ use Rattle.numbers.proofs.Reading.{raised-less-128}
 use Rattle.numbers.proofs.codes.dequantize_i8.Statement.{statement}
 use Rattle.numbers.proofs.codes.dequantize_i8.Tie as tie
 
-add-raised : tie.Need-add-raised
-add-raised c = search needs
-
-int-to-float-result : tie.Need-int-to-float-result
-int-to-float-result c = search needs
-
 returns : tie.Need-returns
 unfolding read8
 returns c = rw (raised-less-128 (c .before .args .code) (c .before .fits .code .fits))
 
 pub dequantize-i8-spec : {M : Type 1} → statement M
-dequantize-i8-spec = tie.close (tie.spec add-raised int-to-float-result returns)
+dequantize-i8-spec =
+    tie.close (tie.spec (λ c. search needs) (λ c. search needs) returns)

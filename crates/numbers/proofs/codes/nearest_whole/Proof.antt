@@ -13,12 +13,6 @@ use Rattle.numbers.proofs.codes.nearest_whole.Tie as tie
 float-from-bits-smaller : tie.Need-float-from-bits-smaller
 float-from-bits-smaller c = up-to-infinity _ (omega arith)
 
-int-to-float-smaller : tie.Need-int-to-float-smaller
-int-to-float-smaller c = search needs
-
-smaller-requires : tie.Need-smaller-requires
-smaller-requires c κs = search needs
-
 rounds : (c : tie.After-smaller) → let a = c .before .before .args in Nearest (c .smaller .result) (counts (a .most) (float (a .bits)))
 rounds c = let s = c .before .before in rw (c .smaller .ensures) (clamped-before (s .args .bits) (s .args .most) (s .pre .0) (s .pre .1))
 
@@ -29,9 +23,6 @@ int-to-float-if1 : tie.Need-int-to-float-if1
 unfolding inFloat
 int-to-float-if1 c = le→leb (ending (c .before .smaller .result)) 16777216 (omega arith)
 
-add-result : tie.Need-add-result
-add-result c = search needs
-
 returns : tie.Need-returns
 returns c = one-more (rounds (c .before .before)) (c .if1 .taken)
 
@@ -40,4 +31,7 @@ returns-2 c = no-more (rounds (c .before .before)) (c .if1 .left)
 
 pub nearest-whole-spec : {M : Type 1} → statement M
 nearest-whole-spec =
-    tie.close (tie.spec float-from-bits-smaller int-to-float-smaller smaller-requires float-to-bits-n int-to-float-if1 add-result returns returns-2)
+    tie.close
+    (tie.spec
+    float-from-bits-smaller (λ c. search needs) (λ c κs. search needs) float-to-bits-n int-to-float-if1 (λ c. search needs) returns
+    returns-2)

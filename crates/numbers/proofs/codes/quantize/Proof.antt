@@ -16,12 +16,6 @@ use Rattle.numbers.proofs.Signs.{counts-up-to, number, number-no-nan, n
 use Rattle.numbers.proofs.codes.quantize.Statement.{statement}
 use Rattle.numbers.proofs.codes.quantize.Tie as tie
 
-word-to-f32-requires : tie.Need-word-to-f32-requires
-word-to-f32-requires c κs = search needs
-
-number-of-requires : tie.Need-number-of-requires
-number-of-requires c κs = search needs
-
 -- what the contract asks for, at its quotient
 abbrev quotient : tie.Start → Float
 quotient s = div binary32 (float (s .args .x)) (s .args .scale)
@@ -83,4 +77,6 @@ returns-2 c =
 
 pub quantize-spec : {M : Type 1} → statement M
 quantize-spec =
-    tie.close (tie.spec word-to-f32-requires number-of-requires float-to-bits-bits nearest-whole-requires add-result sub-result returns returns-2)
+    tie.close
+    (tie.spec
+    (λ c κs. search needs) (λ c κs. search needs) float-to-bits-bits nearest-whole-requires add-result sub-result returns returns-2)

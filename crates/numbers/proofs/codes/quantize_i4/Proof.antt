@@ -6,15 +6,10 @@ use Rattle.numbers.proofs.CodeLaws.{code4-nibble}
 use Rattle.numbers.proofs.codes.quantize_i4.Statement.{statement}
 use Rattle.numbers.proofs.codes.quantize_i4.Tie as tie
 
-quantize-requires : tie.Need-quantize-requires
-quantize-requires c κs = search needs
-
-cast-result : tie.Need-cast-result
-cast-result c = search needs
-
 returns : tie.Need-returns
 unfolding code4
 returns c = omega (arith, c .quantize .ensures, code4-nibble (c .before .args .x) (c .before .args .scale))
 
 pub quantize-i4-spec : {M : Type 1} → statement M
-quantize-i4-spec = tie.close (tie.spec quantize-requires cast-result returns)
+quantize-i4-spec =
+    tie.close (tie.spec (λ c κs. search needs) (λ c. search needs) returns)

@@ -4,14 +4,9 @@ use Rattle.numbers.proofs.CodeLaws.{code8-wraps}
 use Rattle.numbers.proofs.codes.quantize_i8.Statement.{statement}
 use Rattle.numbers.proofs.codes.quantize_i8.Tie as tie
 
-quantize-requires : tie.Need-quantize-requires
-quantize-requires c κs = search needs
-
-cast-result : tie.Need-cast-result
-cast-result c = search needs
-
 returns : tie.Need-returns
 returns c = rw (c .quantize .ensures) (code8-wraps (c .before .args .x) (c .before .args .scale))
 
 pub quantize-i8-spec : {M : Type 1} → statement M
-quantize-i8-spec = tie.close (tie.spec quantize-requires cast-result returns)
+quantize-i8-spec =
+    tie.close (tie.spec (λ c κs. search needs) (λ c. search needs) returns)

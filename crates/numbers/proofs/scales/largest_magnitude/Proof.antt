@@ -19,21 +19,6 @@ abbrev μ-loop : tie.MeasureT-loop
 loop-holds : tie.Need-loop-holds Inv-loop μ-loop
 loop-holds c = (search needs, start _)
 
-mul-word-to-f32 : tie.Need-mul-word-to-f32 Inv-loop μ-loop
-mul-word-to-f32 c = search needs
-
-shared-slice-read-word-to-f32 : tie.Need-shared-slice-read-word-to-f32 Inv-loop μ-loop
-shared-slice-read-word-to-f32 c = search needs
-
-word-to-f32-requires : tie.Need-word-to-f32-requires Inv-loop μ-loop
-word-to-f32-requires c κs = search needs
-
-add-i : tie.Need-add-i Inv-loop μ-loop
-add-i c = search needs
-
-loop-less : tie.Need-loop-less Inv-loop μ-loop
-loop-less c = search needs
-
 loop-again : tie.Need-loop-again Inv-loop μ-loop
 loop-again c =
     let run = c .before .before .before .before .before .before .args .run .now in
@@ -51,13 +36,5 @@ pub largest-magnitude-spec : {M : Type 1} → statement M
 largest-magnitude-spec =
     tie.close
     (tie.spec
-    Inv-loop
-    μ-loop
-    loop-holds
-    mul-word-to-f32
-    shared-slice-read-word-to-f32
-    word-to-f32-requires
-    add-i
-    loop-less
-    loop-again
-    returns)
+    Inv-loop μ-loop loop-holds (λ c. search needs) (λ c. search needs) (λ c κs. search needs) (λ c. search needs)
+    (λ c. search needs) loop-again returns)

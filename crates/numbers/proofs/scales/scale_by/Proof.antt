@@ -4,12 +4,6 @@ use Rattle.numbers.proofs.ScaleLaws.{scale-one, scale-divided}
 use Rattle.numbers.proofs.scales.scale_by.Statement.{statement}
 use Rattle.numbers.proofs.scales.scale_by.Tie as tie
 
-largest-magnitude-requires : tie.Need-largest-magnitude-requires
-largest-magnitude-requires c κs = search needs
-
-int-to-float-result : tie.Need-int-to-float-result
-int-to-float-result c = search needs
-
 returns : tie.Need-returns
 returns c = scale-one _ _ _ (c .before .largest-magnitude .ensures) (c .if1 .taken)
 
@@ -18,4 +12,4 @@ returns-2 c = scale-divided _ _ _ (c .before .before .largest-magnitude .ensures
 
 pub scale-by-spec : {M : Type 1} → statement M
 scale-by-spec =
-    tie.close (tie.spec largest-magnitude-requires int-to-float-result returns returns-2)
+    tie.close (tie.spec (λ c κs. search needs) (λ c. search needs) returns returns-2)

@@ -6,12 +6,6 @@ use Rattle.numbers.specs.Word.{bf16}
 use Rattle.numbers.proofs.words.f32_to_bf16.Statement.{statement}
 use Rattle.numbers.proofs.words.f32_to_bf16.Tie as tie
 
-add-wrapping-add-u32 : tie.Need-add-wrapping-add-u32
-add-wrapping-add-u32 c = search needs
-
-wrapping-add-u32-requires : tie.Need-wrapping-add-u32-requires
-wrapping-add-u32-requires c κs = search needs
-
 cast-result : tie.Need-cast-result
 cast-result c = omega (arith, c .wrapping-add-u32 .ok)
 
@@ -21,4 +15,4 @@ returns c = rw (c .wrapping-add-u32 .ensures, add-assoc)
 
 pub f32-to-bf16-spec : {M : Type 1} → statement M
 f32-to-bf16-spec =
-    tie.close (tie.spec add-wrapping-add-u32 wrapping-add-u32-requires cast-result returns)
+    tie.close (tie.spec (λ c. search needs) (λ c κs. search needs) cast-result returns)

@@ -12,8 +12,6 @@ returns : tie.Need-returns
 unfolding toBits
 returns c = rw (differs _ (c .if1 .taken))
 
-returns-2 : tie.Need-returns-2
-returns-2 c = search needs
-
 pub f32-to-word-spec : {M : Type 1} → statement M
-f32-to-word-spec = tie.close (tie.spec float-to-bits-result returns returns-2)
+f32-to-word-spec =
+    tie.close (tie.spec float-to-bits-result returns (λ c. search needs))

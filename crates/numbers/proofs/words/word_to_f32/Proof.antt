@@ -12,8 +12,6 @@ returns : tie.Need-returns
 unfolding div ofBits
 returns c = rw (above-infinity _ (c .if1 .taken))
 
-returns-2 : tie.Need-returns-2
-returns-2 c = search needs
-
 pub word-to-f32-spec : {M : Type 1} → statement M
-word-to-f32-spec = tie.close (tie.spec float-from-bits-result returns returns-2)
+word-to-f32-spec =
+    tie.close (tie.spec float-from-bits-result returns (λ c. search needs))

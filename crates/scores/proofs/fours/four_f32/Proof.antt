@@ -33,30 +33,6 @@ loop-holds : tie.Need-loop-holds Inv-loop μ-loop
 unfolding summed turns
 loop-holds c = search needs
 
-mul-q : tie.Need-mul-q Inv-loop μ-loop
-mul-q c = search needs
-
-shared-slice-read-q : tie.Need-shared-slice-read-q Inv-loop μ-loop
-shared-slice-read-q c = search needs
-
-lane-f32-requires : tie.Need-lane-f32-requires Inv-loop μ-loop
-lane-f32-requires c κs = search needs
-
-lane-f32-requires-2 : tie.Need-lane-f32-requires-2 Inv-loop μ-loop
-lane-f32-requires-2 c κs = search needs
-
-lane-f32-requires-3 : tie.Need-lane-f32-requires-3 Inv-loop μ-loop
-lane-f32-requires-3 c κs = search needs
-
-lane-f32-requires-4 : tie.Need-lane-f32-requires-4 Inv-loop μ-loop
-lane-f32-requires-4 c κs = search needs
-
-add-d : tie.Need-add-d Inv-loop μ-loop
-add-d c = search needs
-
-loop-less : tie.Need-loop-less Inv-loop μ-loop
-loop-less c = search needs
-
 loop-again : tie.Need-loop-again Inv-loop μ-loop
 loop-again c =
     let inv = c .before .before .before .before .before .before .loop .inv in (
@@ -78,16 +54,5 @@ pub four-f32-spec : {M : Type 1} → statement M
 four-f32-spec =
     tie.close
     (tie.spec
-    Inv-loop
-    μ-loop
-    loop-holds
-    mul-q
-    shared-slice-read-q
-    lane-f32-requires
-    lane-f32-requires-2
-    lane-f32-requires-3
-    lane-f32-requires-4
-    add-d
-    loop-less
-    loop-again
-    returns)
+    Inv-loop μ-loop loop-holds (λ c. search needs) (λ c. search needs) (λ c κs. search needs) (λ c κs. search needs)
+    (λ c κs. search needs) (λ c κs. search needs) (λ c. search needs) (λ c. search needs) loop-again returns)

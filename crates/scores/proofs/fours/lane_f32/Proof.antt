@@ -3,11 +3,9 @@ use borrow.Author.Needs.{needs}
 use Rattle.scores.proofs.fours.lane_f32.Statement.{statement}
 use Rattle.scores.proofs.fours.lane_f32.Tie as tie
 
-number-at-requires : tie.Need-number-at-requires
-number-at-requires c κs = search needs
-
 returns : tie.Need-returns
 returns c = rw (c .number-at .ensures)
 
 pub lane-f32-spec : {M : Type 1} → statement M
-lane-f32-spec = tie.close (tie.spec number-at-requires returns)
+lane-f32-spec =
+    tie.close (tie.spec (λ c κs. search needs) returns)

@@ -11,33 +11,6 @@ use Rattle.numbers.specs.Word.{word}
 use Rattle.scores.proofs.fours.put_four.Statement.{statement}
 use Rattle.scores.proofs.fours.put_four.Tie as tie
 
-f32-to-word-requires : tie.Need-f32-to-word-requires
-f32-to-word-requires c κs = search needs
-
-slice-write-out : tie.Need-slice-write-out
-slice-write-out c = search needs
-
-f32-to-word-requires-2 : tie.Need-f32-to-word-requires-2
-f32-to-word-requires-2 c κs = search needs
-
-slice-write-out-2 : tie.Need-slice-write-out-2
-slice-write-out-2 c = search needs
-
-f32-to-word-requires-3 : tie.Need-f32-to-word-requires-3
-f32-to-word-requires-3 c κs = search needs
-
-slice-write-out-3 : tie.Need-slice-write-out-3
-slice-write-out-3 c = search needs
-
-f32-to-word-requires-4 : tie.Need-f32-to-word-requires-4
-f32-to-word-requires-4 c κs = search needs
-
-slice-write-out-4 : tie.Need-slice-write-out-4
-slice-write-out-4 c = search needs
-
-same-length : tie.Need-same-length
-same-length c = search needs
-
 returns : tie.Need-returns
 unfolding tab
 returns c =
@@ -58,13 +31,5 @@ pub put-four-spec : {M : Type 1} → statement M
 put-four-spec =
     tie.close
     (tie.spec
-    f32-to-word-requires
-    slice-write-out
-    f32-to-word-requires-2
-    slice-write-out-2
-    f32-to-word-requires-3
-    slice-write-out-3
-    f32-to-word-requires-4
-    slice-write-out-4
-    same-length
-    returns)
+    (λ c κs. search needs) (λ c. search needs) (λ c κs. search needs) (λ c. search needs) (λ c κs. search needs) (λ c. search needs)
+    (λ c κs. search needs) (λ c. search needs) (λ c. search needs) returns)

@@ -8,18 +8,6 @@ use Rattle.attention.proofs.FourLaws.{quarter-f32, quarter-int4, row-score, fou
 use Rattle.scores.proofs.fours.score_four.Statement.{statement}
 use Rattle.scores.proofs.fours.score_four.Tie as tie
 
-cells-of-requires : tie.Need-cells-of-requires
-cells-of-requires c κs = search needs
-
-cells-of-requires-2 : tie.Need-cells-of-requires-2
-cells-of-requires-2 c κs = search needs
-
-cells-of-requires-3 : tie.Need-cells-of-requires-3
-cells-of-requires-3 c κs = search needs
-
-cells-of-requires-4 : tie.Need-cells-of-requires-4
-cells-of-requires-4 c κs = search needs
-
 four-f32-requires : tie.Need-four-f32-requires
 four-f32-requires c κs =
     let k = c .before in
@@ -46,18 +34,6 @@ returns c =
     (score 1 _ _ _ t (k .before .before .cells-of2 .ensures) refl (s .1 .0))
     (score 2 _ _ _ t (k .before .cells-of3 .ensures) refl (s .1 .1 .0))
     (score 3 _ _ _ t (k .cells-of4 .ensures) refl (s .1 .1 .1))
-
-scales-of-requires : tie.Need-scales-of-requires
-scales-of-requires c κs = search needs
-
-scales-of-requires-2 : tie.Need-scales-of-requires-2
-scales-of-requires-2 c κs = search needs
-
-scales-of-requires-3 : tie.Need-scales-of-requires-3
-scales-of-requires-3 c κs = search needs
-
-scales-of-requires-4 : tie.Need-scales-of-requires-4
-scales-of-requires-4 c κs = search needs
 
 four-int4-requires : tie.Need-four-int4-requires
 four-int4-requires c κs =
@@ -90,15 +66,5 @@ pub score-four-spec : {M : Type 1} → statement M
 score-four-spec =
     tie.close
     (tie.spec
-    cells-of-requires
-    cells-of-requires-2
-    cells-of-requires-3
-    cells-of-requires-4
-    four-f32-requires
-    returns
-    scales-of-requires
-    scales-of-requires-2
-    scales-of-requires-3
-    scales-of-requires-4
-    four-int4-requires
-    returns-2)
+    (λ c κs. search needs) (λ c κs. search needs) (λ c κs. search needs) (λ c κs. search needs) four-f32-requires returns
+    (λ c κs. search needs) (λ c κs. search needs) (λ c κs. search needs) (λ c κs. search needs) four-int4-requires returns-2)

@@ -22,39 +22,6 @@ loop-holds : tie.Need-loop-holds Inv-loop μ-loop
 unfolding turns
 loop-holds c = search needs
 
-mul-low : tie.Need-mul-low Inv-loop μ-loop
-mul-low c = search needs
-
-shared-slice-read-low : tie.Need-shared-slice-read-low Inv-loop μ-loop
-shared-slice-read-low c = search needs
-
-shared-slice-read-less-8 : tie.Need-shared-slice-read-less-8 Inv-loop μ-loop
-shared-slice-read-less-8 c = search needs
-
-less-8-requires : tie.Need-less-8-requires Inv-loop μ-loop
-less-8-requires c κs = search needs
-
-add-high : tie.Need-add-high Inv-loop μ-loop
-add-high c = search needs
-
-mul-high : tie.Need-mul-high Inv-loop μ-loop
-mul-high c = search needs
-
-shared-slice-read-high : tie.Need-shared-slice-read-high Inv-loop μ-loop
-shared-slice-read-high c = search needs
-
-shared-slice-read-less-8-2 : tie.Need-shared-slice-read-less-8-2 Inv-loop μ-loop
-shared-slice-read-less-8-2 c = search needs
-
-less-8-requires-2 : tie.Need-less-8-requires-2 Inv-loop μ-loop
-less-8-requires-2 c κs = search needs
-
-add-i : tie.Need-add-i Inv-loop μ-loop
-add-i c = search needs
-
-loop-less : tie.Need-loop-less Inv-loop μ-loop
-loop-less c = search needs
-
 loop-again : tie.Need-loop-again Inv-loop μ-loop
 loop-again c =
     let b = c .before .before .before .before .before .before .before .loop .inv in
@@ -68,19 +35,6 @@ pub dot-group-spec : {M : Type 1} → statement M
 dot-group-spec =
     tie.close
     (tie.spec
-    Inv-loop
-    μ-loop
-    loop-holds
-    mul-low
-    shared-slice-read-low
-    shared-slice-read-less-8
-    less-8-requires
-    add-high
-    mul-high
-    shared-slice-read-high
-    shared-slice-read-less-8-2
-    less-8-requires-2
-    add-i
-    loop-less
-    loop-again
-    returns)
+    Inv-loop μ-loop loop-holds (λ c. search needs) (λ c. search needs) (λ c. search needs) (λ c κs. search needs)
+    (λ c. search needs) (λ c. search needs) (λ c. search needs) (λ c. search needs) (λ c κs. search needs) (λ c. search needs)
+    (λ c. search needs) loop-again returns)

@@ -23,20 +23,8 @@ loop-holds : tie.Need-loop-holds Inv-loop μ-loop
 unfolding summed turns
 loop-holds c = search needs
 
-mul-sum : tie.Need-mul-sum Inv-loop μ-loop
-mul-sum c = search needs
-
-shared-slice-read-sum : tie.Need-shared-slice-read-sum Inv-loop μ-loop
-shared-slice-read-sum c = search needs
-
 number-at-requires : tie.Need-number-at-requires Inv-loop μ-loop
 number-at-requires c κs = let h = c .before .before .before .before .before .pre in omega (arith, h)
-
-add-d : tie.Need-add-d Inv-loop μ-loop
-add-d c = search needs
-
-loop-less : tie.Need-loop-less Inv-loop μ-loop
-loop-less c = search needs
 
 loop-again : tie.Need-loop-again Inv-loop μ-loop
 loop-again c = (omega arith, summed-next _ _ (c .before .before .before .loop .inv .1) (rw (c .number-at .ensures)))
@@ -49,13 +37,5 @@ pub score-f32-spec : {M : Type 1} → statement M
 score-f32-spec =
     tie.close
     (tie.spec
-    Inv-loop
-    μ-loop
-    loop-holds
-    mul-sum
-    shared-slice-read-sum
-    number-at-requires
-    add-d
-    loop-less
-    loop-again
-    returns)
+    Inv-loop μ-loop loop-holds (λ c. search needs) (λ c. search needs) number-at-requires (λ c. search needs) (λ c. search needs)
+    loop-again returns)

@@ -23,57 +23,6 @@ loop-holds : tie.Need-loop-holds Inv-loop μ-loop
 unfolding summed turns
 loop-holds c = search needs
 
-mul-a : tie.Need-mul-a Inv-loop μ-loop
-mul-a c = search needs
-
-mul-b : tie.Need-mul-b Inv-loop μ-loop
-mul-b c = search needs
-
-add-dot-group : tie.Need-add-dot-group Inv-loop μ-loop
-add-dot-group c = search needs
-
-mul-dot-group : tie.Need-mul-dot-group Inv-loop μ-loop
-mul-dot-group c = search needs
-
-sub-dot-group : tie.Need-sub-dot-group Inv-loop μ-loop
-sub-dot-group c = search needs
-
-part-dot-group-start : tie.Need-part-dot-group-start Inv-loop μ-loop
-part-dot-group-start c = search needs
-
-part-dot-group-end : tie.Need-part-dot-group-end Inv-loop μ-loop
-part-dot-group-end c = search needs
-
-add-dot-group-2 : tie.Need-add-dot-group-2 Inv-loop μ-loop
-add-dot-group-2 c = search needs
-
-sub-dot-group-2 : tie.Need-sub-dot-group-2 Inv-loop μ-loop
-sub-dot-group-2 c = search needs
-
-part-dot-group-start-2 : tie.Need-part-dot-group-start-2 Inv-loop μ-loop
-part-dot-group-start-2 c = search needs
-
-part-dot-group-end-2 : tie.Need-part-dot-group-end-2 Inv-loop μ-loop
-part-dot-group-end-2 c = search needs
-
-mul-word-to-f32 : tie.Need-mul-word-to-f32 Inv-loop μ-loop
-mul-word-to-f32 c = search needs
-
-shared-slice-read-word-to-f32 : tie.Need-shared-slice-read-word-to-f32 Inv-loop μ-loop
-shared-slice-read-word-to-f32 c = search needs
-
-word-to-f32-requires : tie.Need-word-to-f32-requires Inv-loop μ-loop
-word-to-f32-requires c κs = search needs
-
-dot-group-requires : tie.Need-dot-group-requires Inv-loop μ-loop
-dot-group-requires c κs = search needs
-
-add-g : tie.Need-add-g Inv-loop μ-loop
-add-g c = search needs
-
-loop-less : tie.Need-loop-less Inv-loop μ-loop
-loop-less c = search needs
-
 loop-again : tie.Need-loop-again Inv-loop μ-loop
 loop-again c =
     let loop = c .before .before .before .before .before .before .loop in
@@ -88,25 +37,7 @@ pub score-int4-spec : {M : Type 1} → statement M
 score-int4-spec =
     tie.close
     (tie.spec
-    Inv-loop
-    μ-loop
-    loop-holds
-    mul-a
-    mul-b
-    add-dot-group
-    mul-dot-group
-    sub-dot-group
-    part-dot-group-start
-    part-dot-group-end
-    add-dot-group-2
-    sub-dot-group-2
-    part-dot-group-start-2
-    part-dot-group-end-2
-    mul-word-to-f32
-    shared-slice-read-word-to-f32
-    word-to-f32-requires
-    dot-group-requires
-    add-g
-    loop-less
-    loop-again
-    returns)
+    Inv-loop μ-loop loop-holds (λ c. search needs) (λ c. search needs) (λ c. search needs) (λ c. search needs) (λ c. search needs)
+    (λ c. search needs) (λ c. search needs) (λ c. search needs) (λ c. search needs) (λ c. search needs) (λ c. search needs)
+    (λ c. search needs) (λ c. search needs) (λ c κs. search needs) (λ c κs. search needs) (λ c. search needs) (λ c. search needs)
+    loop-again returns)

@@ -43,21 +43,6 @@ score-row-requires c κs =
     let start = k .before .before .before .before .before in
     part-rows _ _ _ (start .args .cells .now) (start .args .scales .now) (start .pre .0) (k .loop .p) 1 (omega arith) (start .pre .1) (start .pre .2) refl (c .before .cells-of .ensures) (c .scales-of .ensures)
 
-f32-to-word-requires : tie.Need-f32-to-word-requires Inv-loop μ-loop
-f32-to-word-requires c κs = search needs
-
-mul-out : tie.Need-mul-out Inv-loop μ-loop
-mul-out c = search needs
-
-slice-write-out : tie.Need-slice-write-out Inv-loop μ-loop
-slice-write-out c = search needs
-
-add-p : tie.Need-add-p Inv-loop μ-loop
-add-p c = search needs
-
-loop-less : tie.Need-loop-less Inv-loop μ-loop
-loop-less c = search needs
-
 loop-again : tie.Need-loop-again Inv-loop μ-loop
 loop-again c =
     let row = c .before in
@@ -70,9 +55,6 @@ loop-again c =
       search needs,
     )
 
-same-length : tie.Need-same-length Inv-loop μ-loop
-same-length c = search needs
-
 returns : tie.Need-returns Inv-loop μ-loop
 unfolding blockScores scoresOf
 returns c = tab-done _ _ _ (c .before .loop .inv .1) (omega arith) refl
@@ -81,17 +63,5 @@ pub score-rest-spec : {M : Type 1} → statement M
 score-rest-spec =
     tie.close
     (tie.spec
-    Inv-loop
-    μ-loop
-    loop-holds
-    cells-of-requires
-    scales-of-requires
-    score-row-requires
-    f32-to-word-requires
-    mul-out
-    slice-write-out
-    add-p
-    loop-less
-    loop-again
-    same-length
-    returns)
+    Inv-loop μ-loop loop-holds cells-of-requires scales-of-requires score-row-requires (λ c κs. search needs) (λ c. search needs)
+    (λ c. search needs) (λ c. search needs) (λ c. search needs) loop-again (λ c. search needs) returns)

@@ -10,9 +10,6 @@ use Rattle.numbers.proofs.Reading.{less-8}
 use Rattle.scores.proofs.words.code_in.Statement.{statement}
 use Rattle.scores.proofs.words.code_in.Tie as tie
 
-shr-result : tie.Need-shr-result
-shr-result c = search needs
-
 int-to-float-result : tie.Need-int-to-float-result
 unfolding inFloat
 int-to-float-result c = let code = c .before .args .word / 2 ^ c .before .args .from % 16 in passes _ (le-leb code (2 ^ 24) (omega arith))
@@ -22,4 +19,5 @@ unfolding less8
 returns c = less-8 _ (omega arith)
 
 pub code-in-spec : {M : Type 1} → statement M
-code-in-spec = tie.close (tie.spec shr-result int-to-float-result returns)
+code-in-spec =
+    tie.close (tie.spec (λ c. search needs) int-to-float-result returns)

@@ -26,24 +26,6 @@ loop-holds : tie.Need-loop-holds Inv-loop μ-loop
 unfolding turns
 loop-holds c = search needs
 
-lane-word-requires : tie.Need-lane-word-requires Inv-loop μ-loop
-lane-word-requires c κs = search needs
-
-lane-word-requires-2 : tie.Need-lane-word-requires-2 Inv-loop μ-loop
-lane-word-requires-2 c κs = search needs
-
-lane-word-requires-3 : tie.Need-lane-word-requires-3 Inv-loop μ-loop
-lane-word-requires-3 c κs = search needs
-
-lane-word-requires-4 : tie.Need-lane-word-requires-4 Inv-loop μ-loop
-lane-word-requires-4 c κs = search needs
-
-add-i : tie.Need-add-i Inv-loop μ-loop
-add-i c = search needs
-
-loop-less : tie.Need-loop-less Inv-loop μ-loop
-loop-less c = search needs
-
 loop-again : tie.Need-loop-again Inv-loop μ-loop
 loop-again c =
     let third = c .before in
@@ -69,14 +51,5 @@ pub four-groups-spec : {M : Type 1} → statement M
 four-groups-spec =
     tie.close
     (tie.spec
-    Inv-loop
-    μ-loop
-    loop-holds
-    lane-word-requires
-    lane-word-requires-2
-    lane-word-requires-3
-    lane-word-requires-4
-    add-i
-    loop-less
-    loop-again
-    returns)
+    Inv-loop μ-loop loop-holds (λ c κs. search needs) (λ c κs. search needs) (λ c κs. search needs) (λ c κs. search needs)
+    (λ c. search needs) (λ c. search needs) loop-again returns)

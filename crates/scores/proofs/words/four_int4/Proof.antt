@@ -25,51 +25,6 @@ loop-holds : tie.Need-loop-holds Inv-loop μ-loop
 unfolding summed turns
 loop-holds c = search needs
 
-groups-at-requires : tie.Need-groups-at-requires Inv-loop μ-loop
-groups-at-requires c κs = search needs
-
-mul-lane-group : tie.Need-mul-lane-group Inv-loop μ-loop
-mul-lane-group c = search needs
-
-shared-slice-read-lane-group : tie.Need-shared-slice-read-lane-group Inv-loop μ-loop
-shared-slice-read-lane-group c = search needs
-
-lane-group-requires : tie.Need-lane-group-requires Inv-loop μ-loop
-lane-group-requires c κs = search needs
-
-mul-lane-group-2 : tie.Need-mul-lane-group-2 Inv-loop μ-loop
-mul-lane-group-2 c = search needs
-
-shared-slice-read-lane-group-2 : tie.Need-shared-slice-read-lane-group-2 Inv-loop μ-loop
-shared-slice-read-lane-group-2 c = search needs
-
-lane-group-requires-2 : tie.Need-lane-group-requires-2 Inv-loop μ-loop
-lane-group-requires-2 c κs = search needs
-
-mul-lane-group-3 : tie.Need-mul-lane-group-3 Inv-loop μ-loop
-mul-lane-group-3 c = search needs
-
-shared-slice-read-lane-group-3 : tie.Need-shared-slice-read-lane-group-3 Inv-loop μ-loop
-shared-slice-read-lane-group-3 c = search needs
-
-lane-group-requires-3 : tie.Need-lane-group-requires-3 Inv-loop μ-loop
-lane-group-requires-3 c κs = search needs
-
-mul-lane-group-4 : tie.Need-mul-lane-group-4 Inv-loop μ-loop
-mul-lane-group-4 c = search needs
-
-shared-slice-read-lane-group-4 : tie.Need-shared-slice-read-lane-group-4 Inv-loop μ-loop
-shared-slice-read-lane-group-4 c = search needs
-
-lane-group-requires-4 : tie.Need-lane-group-requires-4 Inv-loop μ-loop
-lane-group-requires-4 c κs = search needs
-
-add-g : tie.Need-add-g Inv-loop μ-loop
-add-g c = search needs
-
-loop-less : tie.Need-loop-less Inv-loop μ-loop
-loop-less c = search needs
-
 loop-again : tie.Need-loop-again Inv-loop μ-loop
 loop-again c =
     let third = c .before .before in
@@ -104,23 +59,6 @@ pub four-int4-spec : {M : Type 1} → statement M
 four-int4-spec =
     tie.close
     (tie.spec
-    Inv-loop
-    μ-loop
-    loop-holds
-    groups-at-requires
-    mul-lane-group
-    shared-slice-read-lane-group
-    lane-group-requires
-    mul-lane-group-2
-    shared-slice-read-lane-group-2
-    lane-group-requires-2
-    mul-lane-group-3
-    shared-slice-read-lane-group-3
-    lane-group-requires-3
-    mul-lane-group-4
-    shared-slice-read-lane-group-4
-    lane-group-requires-4
-    add-g
-    loop-less
-    loop-again
-    returns)
+    Inv-loop μ-loop loop-holds (λ c κs. search needs) (λ c. search needs) (λ c. search needs) (λ c κs. search needs)
+    (λ c. search needs) (λ c. search needs) (λ c κs. search needs) (λ c. search needs) (λ c. search needs) (λ c κs. search needs)
+    (λ c. search needs) (λ c. search needs) (λ c κs. search needs) (λ c. search needs) (λ c. search needs) loop-again returns)

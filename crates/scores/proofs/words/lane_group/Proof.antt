@@ -3,11 +3,9 @@ use borrow.Author.Needs.{needs}
 use Rattle.scores.proofs.words.lane_group.Statement.{statement}
 use Rattle.scores.proofs.words.lane_group.Tie as tie
 
-word-to-f32-requires : tie.Need-word-to-f32-requires
-word-to-f32-requires c κs = search needs
-
 returns : tie.Need-returns
 returns c = rw (c .word-to-f32 .ensures)
 
 pub lane-group-spec : {M : Type 1} → statement M
-lane-group-spec = tie.close (tie.spec word-to-f32-requires returns)
+lane-group-spec =
+    tie.close (tie.spec (λ c κs. search needs) returns)

@@ -44,29 +44,8 @@ loop-holds : tie.Need-loop-holds Inv-loop μ-loop
 unfolding turns
 loop-holds c = (omega arith, refl, refl, λ z. absurd (omega arith))
 
-sub-loop : tie.Need-sub-loop Inv-loop μ-loop
-sub-loop c = search needs
-
-add-add-four : tie.Need-add-add-four Inv-loop μ-loop
-add-add-four c = search needs
-
-mul-add-four : tie.Need-mul-add-four Inv-loop μ-loop
-mul-add-four c = search needs
-
-sub-add-four : tie.Need-sub-add-four Inv-loop μ-loop
-sub-add-four c = search needs
-
-part-add-four-start : tie.Need-part-add-four-start Inv-loop μ-loop
-part-add-four-start c = search needs
-
-part-add-four-end : tie.Need-part-add-four-end Inv-loop μ-loop
-part-add-four-end c = search needs
-
 cells-of-requires : tie.Need-cells-of-requires Inv-loop μ-loop
 cells-of-requires c κs = inside (c .before .before) (c .before .before .loop .p) 4 (omega arith)
-
-add-cells-of : tie.Need-add-cells-of Inv-loop μ-loop
-add-cells-of c = search needs
 
 cells-of-requires-2 : tie.Need-cells-of-requires-2 Inv-loop μ-loop
 cells-of-requires-2 c κs = inside (c .before .before .before) (c .before .before .before .loop .p + 4) 4 (omega arith)
@@ -108,21 +87,6 @@ loop-again c =
       λ z. rw (i .2, c .before .before .before .before .cells-of2 .ensures) at (y .ensures .1 z),
     )
 
-sub-n : tie.Need-sub-n Inv-loop μ-loop
-sub-n c = search needs
-
-mul-add-rest : tie.Need-mul-add-rest Inv-loop μ-loop
-mul-add-rest c = search needs
-
-sub-add-rest : tie.Need-sub-add-rest Inv-loop μ-loop
-sub-add-rest c = search needs
-
-part-add-rest-start : tie.Need-part-add-rest-start Inv-loop μ-loop
-part-add-rest-start c = search needs
-
-part-add-rest-end : tie.Need-part-add-rest-end Inv-loop μ-loop
-part-add-rest-end c = search needs
-
 cells-of-requires-3 : tie.Need-cells-of-requires-3 Inv-loop μ-loop
 cells-of-requires-3 c κs = inside (c .before .before) (c .before .before .loop .p) _ (omega arith)
 
@@ -132,9 +96,6 @@ add-rest-requires c κs =
     let a = start k .args in
     rw (c .before .before .add-rest-arg .given .2, k .loop .inv .2)
     (f32-some (a .weights .now) (a .cells .now) (a .scales .now) (length (a .out .now)) (start k .pre) (k .loop .p) _ (omega arith) (c .before .cells-of3 .ensures))
-
-same-length : tie.Need-same-length Inv-loop μ-loop
-same-length c = search needs
 
 returns : tie.Need-returns Inv-loop μ-loop
 returns c =
@@ -151,29 +112,7 @@ pub add-f32-rows-spec : {M : Type 1} → statement M
 add-f32-rows-spec =
     tie.close
     (tie.spec
-    Inv-loop
-    μ-loop
-    mul-c
-    loop-holds
-    sub-loop
-    add-add-four
-    mul-add-four
-    sub-add-four
-    part-add-four-start
-    part-add-four-end
-    cells-of-requires
-    add-cells-of
-    cells-of-requires-2
-    add-four-requires
-    add-p
-    loop-less
-    loop-again
-    sub-n
-    mul-add-rest
-    sub-add-rest
-    part-add-rest-start
-    part-add-rest-end
-    cells-of-requires-3
-    add-rest-requires
-    same-length
-    returns)
+    Inv-loop μ-loop mul-c loop-holds (λ c. search needs) (λ c. search needs) (λ c. search needs) (λ c. search needs)
+    (λ c. search needs) (λ c. search needs) cells-of-requires (λ c. search needs) cells-of-requires-2 add-four-requires add-p
+    loop-less loop-again (λ c. search needs) (λ c. search needs) (λ c. search needs) (λ c. search needs) (λ c. search needs)
+    cells-of-requires-3 add-rest-requires (λ c. search needs) returns)

@@ -8,27 +8,6 @@ use Rattle.sums.proofs.SumLaws.{four-rows}
 use Rattle.sums.proofs.fours.add_four.Statement.{statement}
 use Rattle.sums.proofs.fours.add_four.Tie as tie
 
-shared-slice-read-add-plain : tie.Need-shared-slice-read-add-plain
-shared-slice-read-add-plain c = search needs
-
-shared-slice-read-add-plain-2 : tie.Need-shared-slice-read-add-plain-2
-shared-slice-read-add-plain-2 c = search needs
-
-shared-slice-read-add-plain-3 : tie.Need-shared-slice-read-add-plain-3
-shared-slice-read-add-plain-3 c = search needs
-
-shared-slice-read-add-plain-4 : tie.Need-shared-slice-read-add-plain-4
-shared-slice-read-add-plain-4 c = search needs
-
-cells-of-requires : tie.Need-cells-of-requires
-cells-of-requires c κs = search needs
-
-cells-of-requires-2 : tie.Need-cells-of-requires-2
-cells-of-requires-2 c κs = search needs
-
-cells-of-requires-3 : tie.Need-cells-of-requires-3
-cells-of-requires-3 c κs = search needs
-
 cells-of-requires-4 : tie.Need-cells-of-requires-4
 cells-of-requires-4 c κs = omega (arith, c .before .before .before .before .before .before .before .before .before .before .before .before .before .pre .0 .2)
 
@@ -50,9 +29,6 @@ add-plain-requires c κs =
       ),
     )
 
-same-length : tie.Need-same-length
-same-length c = search needs
-
 returns : tie.Need-returns
 returns c =
     let k = c .before .before .before in
@@ -68,17 +44,11 @@ returns c =
 add-rest-requires : tie.Need-add-rest-requires
 add-rest-requires c κs = let h = c .before .before .before .before .before .before .before .pre .0 in rw (h .0) (h .1)
 
-mul-nans : tie.Need-mul-nans
-mul-nans c = search needs
-
 nans-requires : tie.Need-nans-requires
 nans-requires c κs =
     let h = c .before .before .before .before .before .before .before .before .before .before .pre .0 in
     let four = four-size _ _ _ (h .1) in
     omega (arith, four .0, four .1, h .2)
-
-same-length-2 : tie.Need-same-length-2
-same-length-2 c = search needs
 
 returns-2 : tie.Need-returns-2
 returns-2 c =
@@ -89,19 +59,6 @@ pub add-four-spec : {M : Type 1} → statement M
 add-four-spec =
     tie.close
     (tie.spec
-    shared-slice-read-add-plain
-    shared-slice-read-add-plain-2
-    shared-slice-read-add-plain-3
-    shared-slice-read-add-plain-4
-    cells-of-requires
-    cells-of-requires-2
-    cells-of-requires-3
-    cells-of-requires-4
-    add-plain-requires
-    same-length
-    returns
-    add-rest-requires
-    mul-nans
-    nans-requires
-    same-length-2
-    returns-2)
+    (λ c. search needs) (λ c. search needs) (λ c. search needs) (λ c. search needs) (λ c κs. search needs) (λ c κs. search needs)
+    (λ c κs. search needs) cells-of-requires-4 add-plain-requires (λ c. search needs) returns add-rest-requires (λ c. search needs)
+    nans-requires (λ c. search needs) returns-2)

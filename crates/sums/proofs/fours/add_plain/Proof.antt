@@ -43,12 +43,6 @@ loop-holds : tie.Need-loop-holds Inv-loop μ-loop
 unfolding tab turns
 loop-holds c = search needs
 
-mul-sum : tie.Need-mul-sum Inv-loop μ-loop
-mul-sum c = search needs
-
-slice-read-sum : tie.Need-slice-read-sum Inv-loop μ-loop
-slice-read-sum c = search needs
-
 add-e : tie.Need-add-e Inv-loop μ-loop
 add-e c = omega (arith, c .before .loop-test .taken, small (c .before .before))
 
@@ -86,14 +80,8 @@ with-term-requires-4 c κs =
 mul-out : tie.Need-mul-out Inv-loop μ-loop
 mul-out c = omega (arith, c .before .before .before .before .before .loop-test .taken, small (c .before .before .before .before .before .before))
 
-slice-write-out : tie.Need-slice-write-out Inv-loop μ-loop
-slice-write-out c = search needs
-
 add-d : tie.Need-add-d Inv-loop μ-loop
 add-d c = omega (arith, c .before .before .before .before .before .loop-test .taken, small (c .before .before .before .before .before .before))
-
-loop-less : tie.Need-loop-less Inv-loop μ-loop
-loop-less c = search needs
 
 loop-again : tie.Need-loop-again Inv-loop μ-loop
 loop-again c =
@@ -108,9 +96,6 @@ loop-again c =
       search needs,
     )
 
-same-length : tie.Need-same-length Inv-loop μ-loop
-same-length c = search needs
-
 returns : tie.Need-returns Inv-loop μ-loop
 returns c =
     let k = c .before in
@@ -121,20 +106,6 @@ pub add-plain-spec : {M : Type 1} → statement M
 add-plain-spec =
     tie.close
     (tie.spec
-    Inv-loop
-    μ-loop
-    loop-holds
-    mul-sum
-    slice-read-sum
-    add-e
-    with-term-requires
-    with-term-requires-2
-    with-term-requires-3
-    with-term-requires-4
-    mul-out
-    slice-write-out
-    add-d
-    loop-less
-    loop-again
-    same-length
+    Inv-loop μ-loop loop-holds (λ c. search needs) (λ c. search needs) add-e with-term-requires with-term-requires-2
+    with-term-requires-3 with-term-requires-4 mul-out (λ c. search needs) add-d (λ c. search needs) loop-again (λ c. search needs)
     returns)

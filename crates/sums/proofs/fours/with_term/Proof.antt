@@ -5,12 +5,6 @@ use Rattle.sums.proofs.NanLaws.{one-at-most}
 use Rattle.sums.proofs.fours.with_term.Statement.{statement}
 use Rattle.sums.proofs.fours.with_term.Tie as tie
 
-plain-at-requires : tie.Need-plain-at-requires
-plain-at-requires c κs = search needs
-
-nan-at-requires : tie.Need-nan-at-requires
-nan-at-requires c κs = search needs
-
 add-nans : tie.Need-add-nans
 add-nans c =
     let a = c .before .before .before .before .before .before .args in
@@ -20,4 +14,5 @@ returns : tie.Need-returns
 returns c = (rw (c .before .before .before .plain-at .ensures), rw (c .before .nan-at .ensures))
 
 pub with-term-spec : {M : Type 1} → statement M
-with-term-spec = tie.close (tie.spec plain-at-requires nan-at-requires add-nans returns)
+with-term-spec =
+    tie.close (tie.spec (λ c κs. search needs) (λ c κs. search needs) add-nans returns)

@@ -20,38 +20,14 @@ loop-holds : tie.Need-loop-holds Inv-loop μ-loop
 unfolding tab
 loop-holds c = search needs
 
-mul-out : tie.Need-mul-out Inv-loop μ-loop
-mul-out c = search needs
-
-slice-read-out : tie.Need-slice-read-out Inv-loop μ-loop
-slice-read-out c = search needs
-
 word-at-requires : tie.Need-word-at-requires Inv-loop μ-loop
 word-at-requires c κs = let h = c .before .before .before .before .before .pre in omega (arith, h)
-
-word-to-f32-requires : tie.Need-word-to-f32-requires Inv-loop μ-loop
-word-to-f32-requires c κs = search needs
-
-mul-out-2 : tie.Need-mul-out-2 Inv-loop μ-loop
-mul-out-2 c = search needs
-
-slice-write-out : tie.Need-slice-write-out Inv-loop μ-loop
-slice-write-out c = search needs
-
-add-d : tie.Need-add-d Inv-loop μ-loop
-add-d c = search needs
-
-loop-less : tie.Need-loop-less Inv-loop μ-loop
-loop-less c = search needs
 
 loop-again : tie.Need-loop-again Inv-loop μ-loop
 loop-again c =
     let k = c .before .before .before .before .loop in
     let out = c .before .before .before .before .before .before .before .args .out .now in
     (omega arith, added-next _ out _ (omega arith) (k .inv .1) (rw (c .word-to-f32 .ensures, c .before .word-at .ensures)), search needs)
-
-same-length : tie.Need-same-length Inv-loop μ-loop
-same-length c = search needs
 
 returns : tie.Need-returns Inv-loop μ-loop
 returns c = added-all _ _ (c .before .loop .inv .1) (omega arith)
@@ -60,17 +36,5 @@ pub add-f32-spec : {M : Type 1} → statement M
 add-f32-spec =
     tie.close
     (tie.spec
-    Inv-loop
-    μ-loop
-    loop-holds
-    mul-out
-    slice-read-out
-    word-at-requires
-    word-to-f32-requires
-    mul-out-2
-    slice-write-out
-    add-d
-    loop-less
-    loop-again
-    same-length
-    returns)
+    Inv-loop μ-loop loop-holds (λ c. search needs) (λ c. search needs) word-at-requires (λ c κs. search needs) (λ c. search needs)
+    (λ c. search needs) (λ c. search needs) (λ c. search needs) loop-again (λ c. search needs) returns)

@@ -23,57 +23,12 @@ loop-holds : tie.Need-loop-holds Inv-loop μ-loop
 unfolding tab
 loop-holds c = search needs
 
-mul-low : tie.Need-mul-low Inv-loop μ-loop
-mul-low c = search needs
-
-slice-read-low : tie.Need-slice-read-low Inv-loop μ-loop
-slice-read-low c = search needs
-
-shared-slice-read-less-8 : tie.Need-shared-slice-read-less-8 Inv-loop μ-loop
-shared-slice-read-less-8 c = search needs
-
-less-8-requires : tie.Need-less-8-requires Inv-loop μ-loop
-less-8-requires c κs = search needs
-
-add-high : tie.Need-add-high Inv-loop μ-loop
-add-high c = search needs
-
-mul-high : tie.Need-mul-high Inv-loop μ-loop
-mul-high c = search needs
-
-slice-read-high : tie.Need-slice-read-high Inv-loop μ-loop
-slice-read-high c = search needs
-
-shared-slice-read-less-8-2 : tie.Need-shared-slice-read-less-8-2 Inv-loop μ-loop
-shared-slice-read-less-8-2 c = search needs
-
-less-8-requires-2 : tie.Need-less-8-requires-2 Inv-loop μ-loop
-less-8-requires-2 c κs = search needs
-
-mul-out : tie.Need-mul-out Inv-loop μ-loop
-mul-out c = search needs
-
-slice-write-out : tie.Need-slice-write-out Inv-loop μ-loop
-slice-write-out c = search needs
-
-add-out : tie.Need-add-out Inv-loop μ-loop
-add-out c = search needs
-
-mul-out-2 : tie.Need-mul-out-2 Inv-loop μ-loop
-mul-out-2 c = search needs
-
 slice-write-out-2 : tie.Need-slice-write-out-2 Inv-loop μ-loop
 slice-write-out-2 c =
     let k = c .before .before .before .before .before .before .before .loop in
     let h = c .before .before .before .before .before .before .before .before .before .before .pre .0 in
     let b : k .i + 16 < length (k .out) = omega (arith, k .inv) in
     lt-length-set (k .out) (k .i) _ b
-
-add-i : tie.Need-add-i Inv-loop μ-loop
-add-i c = search needs
-
-loop-less : tie.Need-loop-less Inv-loop μ-loop
-loop-less c = search needs
 
 loop-again : tie.Need-loop-again Inv-loop μ-loop
 loop-again c =
@@ -86,9 +41,6 @@ loop-again c =
       search needs,
     )
 
-same-length : tie.Need-same-length Inv-loop μ-loop
-same-length c = search needs
-
 returns : tie.Need-returns Inv-loop μ-loop
 returns c =
     let a = c .before .before .before .before in
@@ -98,25 +50,7 @@ pub add-group-spec : {M : Type 1} → statement M
 add-group-spec =
     tie.close
     (tie.spec
-    Inv-loop
-    μ-loop
-    loop-holds
-    mul-low
-    slice-read-low
-    shared-slice-read-less-8
-    less-8-requires
-    add-high
-    mul-high
-    slice-read-high
-    shared-slice-read-less-8-2
-    less-8-requires-2
-    mul-out
-    slice-write-out
-    add-out
-    mul-out-2
-    slice-write-out-2
-    add-i
-    loop-less
-    loop-again
-    same-length
-    returns)
+    Inv-loop μ-loop loop-holds (λ c. search needs) (λ c. search needs) (λ c. search needs) (λ c κs. search needs)
+    (λ c. search needs) (λ c. search needs) (λ c. search needs) (λ c. search needs) (λ c κs. search needs) (λ c. search needs)
+    (λ c. search needs) (λ c. search needs) (λ c. search needs) slice-write-out-2 (λ c. search needs) (λ c. search needs) loop-again
+    (λ c. search needs) returns)

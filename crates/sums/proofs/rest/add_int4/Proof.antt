@@ -23,57 +23,6 @@ loop-holds : tie.Need-loop-holds Inv-loop μ-loop
 unfolding tab
 loop-holds c = search needs
 
-mul-a : tie.Need-mul-a Inv-loop μ-loop
-mul-a c = search needs
-
-mul-b : tie.Need-mul-b Inv-loop μ-loop
-mul-b c = search needs
-
-mul-word-to-f32 : tie.Need-mul-word-to-f32 Inv-loop μ-loop
-mul-word-to-f32 c = search needs
-
-shared-slice-read-word-to-f32 : tie.Need-shared-slice-read-word-to-f32 Inv-loop μ-loop
-shared-slice-read-word-to-f32 c = search needs
-
-word-to-f32-requires : tie.Need-word-to-f32-requires Inv-loop μ-loop
-word-to-f32-requires c κs = search needs
-
-add-add-group : tie.Need-add-add-group Inv-loop μ-loop
-add-add-group c = search needs
-
-sub-add-group : tie.Need-sub-add-group Inv-loop μ-loop
-sub-add-group c = search needs
-
-part-add-group-start : tie.Need-part-add-group-start Inv-loop μ-loop
-part-add-group-start c = search needs
-
-part-add-group-end : tie.Need-part-add-group-end Inv-loop μ-loop
-part-add-group-end c = search needs
-
-add-add-group-2 : tie.Need-add-add-group-2 Inv-loop μ-loop
-add-add-group-2 c = search needs
-
-mul-add-group : tie.Need-mul-add-group Inv-loop μ-loop
-mul-add-group c = search needs
-
-sub-add-group-2 : tie.Need-sub-add-group-2 Inv-loop μ-loop
-sub-add-group-2 c = search needs
-
-part-add-group-start-2 : tie.Need-part-add-group-start-2 Inv-loop μ-loop
-part-add-group-start-2 c = search needs
-
-part-add-group-end-2 : tie.Need-part-add-group-end-2 Inv-loop μ-loop
-part-add-group-end-2 c = search needs
-
-add-group-requires : tie.Need-add-group-requires Inv-loop μ-loop
-add-group-requires c κs = search needs
-
-add-g : tie.Need-add-g Inv-loop μ-loop
-add-g c = search needs
-
-loop-less : tie.Need-loop-less Inv-loop μ-loop
-loop-less c = search needs
-
 loop-again : tie.Need-loop-again Inv-loop μ-loop
 loop-again c =
     let start = c .before .before .before .before .before .before .before .before .before .before .before .before .args in
@@ -85,9 +34,6 @@ loop-again c =
       search needs,
     )
 
-same-length : tie.Need-same-length Inv-loop μ-loop
-same-length c = search needs
-
 returns : tie.Need-returns Inv-loop μ-loop
 returns c = added-all _ _ (c .before .loop .inv .1) (omega arith)
 
@@ -95,26 +41,7 @@ pub add-int4-spec : {M : Type 1} → statement M
 add-int4-spec =
     tie.close
     (tie.spec
-    Inv-loop
-    μ-loop
-    loop-holds
-    mul-a
-    mul-b
-    mul-word-to-f32
-    shared-slice-read-word-to-f32
-    word-to-f32-requires
-    add-add-group
-    sub-add-group
-    part-add-group-start
-    part-add-group-end
-    add-add-group-2
-    mul-add-group
-    sub-add-group-2
-    part-add-group-start-2
-    part-add-group-end-2
-    add-group-requires
-    add-g
-    loop-less
-    loop-again
-    same-length
-    returns)
+    Inv-loop μ-loop loop-holds (λ c. search needs) (λ c. search needs) (λ c. search needs) (λ c. search needs)
+    (λ c κs. search needs) (λ c. search needs) (λ c. search needs) (λ c. search needs) (λ c. search needs) (λ c. search needs)
+    (λ c. search needs) (λ c. search needs) (λ c. search needs) (λ c. search needs) (λ c κs. search needs) (λ c. search needs)
+    (λ c. search needs) loop-again (λ c. search needs) returns)

@@ -27,14 +27,8 @@ abbrev μ-loop : tie.MeasureT-loop
 cast-cell-bytes : tie.Need-cast-cell-bytes Inv-loop μ-loop
 cast-cell-bytes c = omega (arith, fits-facts ((c .before .before .before .before .pre) .1) .small)
 
-cell-bytes-requires : tie.Need-cell-bytes-requires Inv-loop μ-loop
-cell-bytes-requires c κs = search needs
-
 cast-scale-words : tie.Need-cast-scale-words Inv-loop μ-loop
 cast-scale-words c = omega (arith, fits-facts ((c .before .before .before .before .before .pre) .1) .small)
-
-scale-words-requires : tie.Need-scale-words-requires Inv-loop μ-loop
-scale-words-requires c κs = search needs
 
 loop-holds : tie.Need-loop-holds Inv-loop μ-loop
 unfolding turns
@@ -52,12 +46,6 @@ scales-of-requires c κs =
     let start = k .before .before .before .before .before .before .before in
     part-inside _ _ _ (start .args .cells .now) (start .args .scales .now) (start .pre) (k .loop .p) 1 (omega arith) (k .before .before .cell-bytes .ensures) (k .before .scale-words .ensures) .1
 
-mul-add-row : tie.Need-mul-add-row Inv-loop μ-loop
-mul-add-row c = search needs
-
-shared-slice-read-add-row : tie.Need-shared-slice-read-add-row Inv-loop μ-loop
-shared-slice-read-add-row c = search needs
-
 add-row-requires : tie.Need-add-row-requires Inv-loop μ-loop
 add-row-requires c κs =
     let k = c .before .before .before .before .before in
@@ -65,12 +53,6 @@ add-row-requires c κs =
     rw (k .loop .inv .2)
     (part-rows _ _ _ (start .args .cells .now) (start .args .scales .now) (start .pre) (k .loop .p) 1 (omega arith) (k .before .before .cell-bytes .ensures) (k .before .scale-words .ensures) refl
     (c .before .before .before .cells-of .ensures) (c .before .before .scales-of .ensures))
-
-add-p : tie.Need-add-p Inv-loop μ-loop
-add-p c = search needs
-
-loop-less : tie.Need-loop-less Inv-loop μ-loop
-loop-less c = search needs
 
 loop-again : tie.Need-loop-again Inv-loop μ-loop
 loop-again c =
@@ -84,9 +66,6 @@ loop-again c =
       search needs,
     )
 
-same-length : tie.Need-same-length Inv-loop μ-loop
-same-length c = search needs
-
 returns : tie.Need-returns Inv-loop μ-loop
 returns c =
     let e : c .before .loop .p ≡ length (c .before .before .before .before .before .before .before .before .args .weights .now) = omega arith in
@@ -96,20 +75,6 @@ pub add-rest-spec : {M : Type 1} → statement M
 add-rest-spec =
     tie.close
     (tie.spec
-    Inv-loop
-    μ-loop
-    cast-cell-bytes
-    cell-bytes-requires
-    cast-scale-words
-    scale-words-requires
-    loop-holds
-    cells-of-requires
-    scales-of-requires
-    mul-add-row
-    shared-slice-read-add-row
-    add-row-requires
-    add-p
-    loop-less
-    loop-again
-    same-length
-    returns)
+    Inv-loop μ-loop cast-cell-bytes (λ c κs. search needs) cast-scale-words (λ c κs. search needs) loop-holds cells-of-requires
+    scales-of-requires (λ c. search needs) (λ c. search needs) add-row-requires (λ c. search needs) (λ c. search needs) loop-again
+    (λ c. search needs) returns)

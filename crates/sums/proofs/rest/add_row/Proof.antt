@@ -12,15 +12,9 @@ add-f32-requires c κs = f32-row _ _ _ _ (c .before .before .before .before .bef
 add-int4-requires : tie.Need-add-int4-requires
 add-int4-requires c κs = int4-row _ _ _ _ (c .before .before .before .before .before .pre) (c .before .match .keys2)
 
-same-length : tie.Need-same-length
-same-length c = search needs
-
 returns : tie.Need-returns
 unfolding rowTerm scorings added
 returns c = rw (c .before .before .before .before .match .keys1) (c .before .before .add-f32 .ensures)
-
-same-length-2 : tie.Need-same-length-2
-same-length-2 c = search needs
 
 returns-2 : tie.Need-returns-2
 unfolding rowTerm scorings added
@@ -31,5 +25,4 @@ returns-3 c = absurd (scored-other (c .before .before .before .before .args .for
 
 pub add-row-spec : {M : Type 1} → statement M
 add-row-spec =
-    tie.close
-    (tie.spec add-f32-requires add-int4-requires same-length returns same-length-2 returns-2 returns-3)
+    tie.close (tie.spec add-f32-requires add-int4-requires (λ c. search needs) returns (λ c. search needs) returns-2 returns-3)

@@ -8,9 +8,6 @@ use lib.Ieee.Bits.{nanBits-above}
 use Rattle.sums.proofs.stored.nan_at.Statement.{statement}
 use Rattle.sums.proofs.stored.nan_at.Tie as tie
 
-word-at-requires : tie.Need-word-at-requires
-word-at-requires c κs = search needs
-
 returns : tie.Need-returns
 returns c =
     let e : nanBits binary32 (c .before .word-at .result) ≡ true = nanBits-above binary32 _ ∙ lt-ltb _ _ (c .if1 .taken) in
@@ -22,4 +19,5 @@ returns-2 c =
     rw (rw (c .before .word-at .ensures) at e)
 
 pub nan-at-spec : {M : Type 1} → statement M
-nan-at-spec = tie.close (tie.spec word-at-requires returns returns-2)
+nan-at-spec =
+    tie.close (tie.spec (λ c κs. search needs) returns returns-2)

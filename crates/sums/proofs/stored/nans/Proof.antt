@@ -20,20 +20,11 @@ loop-holds : tie.Need-loop-holds Inv-loop μ-loop
 unfolding turns
 loop-holds c = search needs
 
-nan-at-requires : tie.Need-nan-at-requires Inv-loop μ-loop
-nan-at-requires c κs = search needs
-
 add-count : tie.Need-add-count Inv-loop μ-loop
 add-count c =
     let k = c .before .before .loop in
     let cells = c .before .before .before .before .args .cells .now in
     omega (arith, sum-most (k .d) 1 (nanCount cells) (one-at-most cells), one-at-most cells (k .d), c .nan-at .ensures)
-
-add-d : tie.Need-add-d Inv-loop μ-loop
-add-d c = search needs
-
-loop-less : tie.Need-loop-less Inv-loop μ-loop
-loop-less c = search needs
 
 loop-again : tie.Need-loop-again Inv-loop μ-loop
 loop-again c = (omega arith, turns-next _ _ 0 (c .before .before .loop .inv .1) (rw (c .nan-at .ensures)))
@@ -42,4 +33,7 @@ returns : tie.Need-returns Inv-loop μ-loop
 returns c = let e : c .before .loop .d ≡ c .before .before .before .args .n = omega arith in rw e at (c .before .loop .inv .1)
 
 pub nans-spec : {M : Type 1} → statement M
-nans-spec = tie.close (tie.spec Inv-loop μ-loop loop-holds nan-at-requires add-count add-d loop-less loop-again returns)
+nans-spec =
+    tie.close
+    (tie.spec
+    Inv-loop μ-loop loop-holds (λ c κs. search needs) add-count (λ c. search needs) (λ c. search needs) loop-again returns)

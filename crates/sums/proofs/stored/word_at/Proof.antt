@@ -5,24 +5,6 @@ use Rattle.decode.proofs.DecodeLaws.{word-lent}
 use Rattle.sums.proofs.stored.word_at.Statement.{statement}
 use Rattle.sums.proofs.stored.word_at.Tie as tie
 
-mul-a : tie.Need-mul-a
-mul-a c = search needs
-
-add-word-of : tie.Need-add-word-of
-add-word-of c = search needs
-
-sub-word-of : tie.Need-sub-word-of
-sub-word-of c = search needs
-
-part-word-of-start : tie.Need-part-word-of-start
-part-word-of-start c = search needs
-
-part-word-of-end : tie.Need-part-word-of-end
-part-word-of-end c = search needs
-
-word-of-requires : tie.Need-word-of-requires
-word-of-requires c κs = search needs
-
 returns : tie.Need-returns
 returns c = let start = c .before .before .before in word-lent (start .args .cells .now) (start .args .d * 4) (c .word-of .ensures) (start .pre)
 
@@ -30,10 +12,5 @@ pub word-at-spec : {M : Type 1} → statement M
 word-at-spec =
     tie.close
     (tie.spec
-    mul-a
-    add-word-of
-    sub-word-of
-    part-word-of-start
-    part-word-of-end
-    word-of-requires
+    (λ c. search needs) (λ c. search needs) (λ c. search needs) (λ c. search needs) (λ c. search needs) (λ c κs. search needs)
     returns)

@@ -13,14 +13,6 @@ mul-p c =
     let p = mul-le-mul a b in
     record { fits = omega arith }
 
-cast-result : tie.Need-cast-result
-cast-result c = search needs
-
-returns : tie.Need-returns
-returns c = search needs
-
-returns-2 : tie.Need-returns-2
-returns-2 c = search needs
-
 pub product-spec : {M : Type 1} → statement M
-product-spec = tie.close (tie.spec mul-p cast-result returns returns-2)
+product-spec =
+    tie.close (tie.spec mul-p (λ c. search needs) (λ c. search needs) (λ c. search needs))
