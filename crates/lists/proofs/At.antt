@@ -1,13 +1,13 @@
--- A part changed: its length, the part and the rest afterwards, and a second change of the part, within it or beside it.
+-- A part changed: its length, and the part and the rest afterwards.
 -- Each holds since a change lies in one half of the list, wherever the list is cut outside the part.
 use mathlib.Core.Path.{_≡_, refl, sym, _∙_}
 use mathlib.Core.List.{List, _++_, append-assoc}
 use Prim.Native.Nat.{ℕ, _+_, _-_, _≤_}
 use native.Mathlib.Omega.{arith}
 use lib.ListN.{length, take, drop, length-append, length-drop, take-append-drop}
-use lib.Seq.{length-take-le, take-at, drop-at, take-add, drop-drop, take-append-le, drop-append-le}
+use lib.Seq.{length-take-le, take-at, drop-at, take-add, drop-drop}
 use Rattle.lists.specs.Chunks.{part, at}
-use Rattle.lists.proofs.Part.{Keeps, part-length, part-left, part-before, part-after}
+use Rattle.lists.proofs.Part.{Keeps, part-length, part-before, part-after}
 
 module _ {A : Type 0} (a k : ℕ) (f : List A → List A) (l : List A) where
   -- the definition, as an equation
@@ -18,11 +18,6 @@ module _ {A : Type 0} (a k : ℕ) (f : List A → List A) (l : List A) where
   -- what a lent `&mut l[a..e]` leaves, where the part that comes back is f of the part that was lent
   pub at-lent : {e : ℕ} {y : List A} → a + k ≡ e → y ≡ f (part a (e - a) l) → take a l ++ (y ++ drop (e - a) (drop a l)) ≡ at a k f l
   at-lent {e} h q = let w : e - a ≡ k = omega arith in rw (q, w) (sym at-is)
-
-  -- functions that agree on the part change it alike
-  pub at-same : (g : List A → List A) → f (part a k l) ≡ g (part a k l) → at a k f l ≡ at a k g l
-  unfolding at
-  at-same g e = rw e
 
   -- a function that leaves the part leaves the list
   pub at-id : f (part a k l) ≡ part a k l → at a k f l ≡ l
@@ -59,12 +54,9 @@ module _ {A : Type 0} (a k : ℕ) (f : List A → List A) (l : List A) where
     at-part-after b m w = part-after b m (a + k) (at a k f l) l at-after w
 
 module _ {A : Type 0} where
-  -- the first k elements changed, and what a lent `&mut l[..k]` leaves
+  -- the first k elements changed
   pub at-front : (k : ℕ) (f : List A → List A) (l : List A) → at 0 k f l ≡ f (take k l) ++ drop k l
   at-front k f l = at-is 0 k f l
-
-  pub at-lent-front : (k : ℕ) (f : List A → List A) (l : List A) {y : List A} → y ≡ f (take k l) → y ++ drop k l ≡ at 0 k f l
-  at-lent-front k f l q = rw (q, at-front)
 
   -- cut at the part or before it, the change lies in the second half
   pub at-add : (a b k : ℕ) (f : List A → List A) (l : List A) → at (a + b) k f l ≡ take a l ++ at b k f (drop a l)
@@ -74,38 +66,6 @@ module _ {A : Type 0} where
   pub at-right : (n b k : ℕ) (f : List A → List A) (p r : List A) → length p ≡ n → at (n + b) k f (p ++ r) ≡ p ++ at b k f r
   at-right n b k f p r e = rw (at-add, take-at p r n e, drop-at p r n e)
 
-  -- cut at its end or after it, in the first
-  pub at-left : (a k : ℕ) (f : List A → List A) (p r : List A) → a + k ≤ length p → at a k f (p ++ r) ≡ at a k f p ++ r
-  unfolding at
-  at-left a k f p r h =
-      let b : a ≤ length p = omega arith in
-      let w : k ≤ length (drop a p) = simp length-drop (omega arith) in
-      rw (take-append-le, part-left, drop-append-le, drop-append-le) (simp append-assoc)
-
   -- a change of a part keeps the length of a list that it lies in
   pub at-keeps : (a k n : ℕ) (f : List A → List A) → Keeps k f → a + k ≤ n → Keeps n (at a k f)
   at-keeps a k n f keep h x e = at-length a k f x keep (omega arith) ∙ e
-
-  -- a second change of the part
-  pub at-at : (a k : ℕ) (f g : List A → List A) (l : List A) → Keeps k f → a + k ≤ length l
-      → at a k g (at a k f l) ≡ at a k (λ x. g (f x)) l
-  at-at a k f g l keep h =
-      let b : a ≤ length l = omega arith in
-      rw (at-is a k g (at a k f l), at-before, at-part, drop-drop, at-after, ← drop-drop) (sym (at-is a k (λ x. g (f x)) l))
-
-  -- a change in the part of a part
-  pub at-in-at : (a k b m : ℕ) (f : List A → List A) (l : List A) → b + m ≤ k → a + k ≤ length l
-      → at a k (at b m f) l ≡ at (a + b) m f l
-  at-in-at a k b m f l h w =
-      let s : b + m ≤ length (part a k l) = rw part-length h in
-      rw (at-is a k (at b m f) l, at-add, ← at-left, take-append-drop)
-
-  -- changes of two parts, one before the other, in either order
-  pub at-swap : (a k b m : ℕ) (f g : List A → List A) (l : List A) → Keeps k f → a + k ≤ b → b ≤ length l
-      → at b m g (at a k f l) ≡ at a k f (at b m g l)
-  at-swap a k b m f g l keep h w =
-      let s : length (take b l) ≡ b = length-take-le b l w in
-      let t : a + k ≤ length (take b l) = omega arith in
-      let u : length (at a k f (take b l)) ≡ b = at-keeps a k b f keep h (take b l) s in
-      let q : at a k f l ≡ at a k f (take b l) ++ drop b l = rw (← at-left, take-append-drop) in
-      rw (at-is b m g l, at-left, q, at-is b m g, take-at, drop-at)

@@ -4,7 +4,6 @@ pub mod Each
 pub mod Joined
 pub mod Loop
 pub mod Part
-pub mod Regroup
 pub mod Some
 pub mod Tab
 pub mod Turns

@@ -7,9 +7,8 @@ use native.Mathlib.Nat.{not-suc-le-zero, le-of-suc-le-suc, zero-add, suc-add, ze
 use native.Mathlib.Numerals.{add-one}
 use native.Mathlib.Omega.{arith}
 use lib.ListN.{length, getD, set, take, drop, replicate, length-append, length-drop, drop-of-length-le}
-use lib.Seq.{take-at, drop-at, drop-drop, drop-cons, set-at, append-snoc, ext-getD, getD-at, getD-take, getD-drop}
-use Rattle.lists.specs.Chunks.{tab, part}
-use Rattle.lists.proofs.Part.{part-length}
+use lib.Seq.{take-at, drop-at, drop-drop, drop-cons, set-at, append-snoc, ext-getD, getD-at}
+use Rattle.lists.specs.Chunks.{tab}
 
 module _ {A : Type 0} where
   -- n values
@@ -29,10 +28,6 @@ module _ {A : Type 0} where
   pub tab-of : (n : ℕ) (f : ℕ → A) (l : List A) (d : A) → length l ≡ n → ((i : ℕ) → i < n → getD l i d ≡ f i) → l ≡ tab n f
   tab-of n f l d e v =
       ext-getD d l (tab n f) (rw tab-length e) (λ i h. let b : i < n = omega arith in rw tab-getD (v i b))
-
-  -- a part is the table of its values
-  pub part-tab : (a k : ℕ) (l : List A) (d : A) → a + k ≤ length l → part a k l ≡ tab k (λ i. getD l (a + i) d)
-  part-tab a k l d h = tab-of k _ (part a k l) d (part-length a k l h) (λ i b. rw (getD-take, getD-drop))
 
   -- equal values
   pub tab-replicate : (n : ℕ) (z : A) → replicate n z ≡ tab n (λ i. z)

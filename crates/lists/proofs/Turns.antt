@@ -34,10 +34,6 @@ module _ {A : Type 0} where
   turns-same zero f g x e = refl
   turns-same (suc n) f g x e = let h = turns-same n f g x (λ i b. e i (omega arith)) in rw (e n (omega arith), h)
 
-  -- equal starts end alike
-  pub turns-start : (n : ℕ) (f : ℕ → A → A) {x y : A} → x ≡ y → turns n f x ≡ turns n f y
-  turns-start n f e = ap (turns n f) e
-
   -- what holds at the start, and which each turn keeps, holds at the end
   pub turns-keep : (P : A → Type 0) (n : ℕ) (f : ℕ → A → A) {x : A}
       → ((i : ℕ) → i < n → (y : A) → P y → P (f i y)) → P x → P (turns n f x)
