@@ -2,7 +2,7 @@
 -- Each holds by the lines of the table.
 use mathlib.Core.Path.{_≡_, refl}
 use mathlib.Core.Bool.{true}
-use Prim.Native.Nat.{ℕ, zero, suc, _-_, _≤_}
+use Prim.Native.Nat.{ℕ, zero, suc, _≤_}
 use lib.ListN.{length, List·getD-eq-default}
 use Rattle.rows.proofs.FitLaws.{fits-facts, f32-fits, int4-fits}
 use Rattle.attention.specs.Order.{scorings, scoringOf, noScoring, hasScores}

@@ -1,9 +1,9 @@
 -- Lists in a row: their length, one of them, and the chunks of a list replaced by them.
 -- Each holds by induction on the number of lists, at the first and at those that follow it.
-use mathlib.Core.Path.{_≡_, refl, ap, _∙_}
+use mathlib.Core.Path.{_≡_, _∙_}
 use mathlib.Core.List.{List, _++_, append-nil, append-assoc}
-use Prim.Native.Nat.{ℕ, zero, suc, _+_, _*_, _≤_, _<_, suc-le-suc}
-use native.Mathlib.Nat.{zero-mul, suc-mul, zero-add, suc-add, add-comm, zero-lt-suc, not-suc-le-zero, le-of-suc-le-suc}
+use Prim.Native.Nat.{ℕ, zero, suc, _*_, _≤_, _<_, suc-le-suc}
+use native.Mathlib.Nat.{zero-mul, suc-mul, add-comm, zero-lt-suc, not-suc-le-zero, le-of-suc-le-suc}
 use native.Mathlib.Omega.{arith}
 use lib.ListN.{length, drop, replicate, length-append, replicate-append-replicate, drop-of-length-le}
 use lib.Seq.{take-at, drop-drop}
@@ -32,21 +32,6 @@ module _ {A : Type 0} where
   joined-part k (suc n) (suc j) f s h =
       rw (suc-mul, add-comm (j * k) k, part-right k (j * k) k (f 0) _ (s 0 (zero-lt-suc n)))
       (joined-part k n j (λ i. f (suc i)) (later k n f s) (le-of-suc-le-suc h))
-
-  -- functions that agree below n
-  pub joined-same : (n : ℕ) (f g : ℕ → List A) → ((i : ℕ) → i < n → f i ≡ g i) → joined n f ≡ joined n g
-  unfolding joined
-  joined-same zero f g e = refl
-  joined-same (suc n) f g e =
-      let h = joined-same n (λ i. f (suc i)) (λ i. g (suc i)) (λ i b. e (suc i) (suc-le-suc b)) in
-      rw (e 0 (zero-lt-suc n), h)
-
-  -- the first n lists, then the m after them
-  pub joined-add : (n m : ℕ) (f : ℕ → List A) → joined (n + m) f ≡ joined n f ++ joined m (λ i. f (n + i))
-  unfolding joined
-  joined-add zero m f = simp zero-add
-  joined-add (suc n) m f =
-      rw (suc-add, append-assoc) (ap (λ (r : List A). f 0 ++ r) (joined-add n m (λ i. f (suc i)) ∙ simp suc-add))
 
   -- equal elements throughout
   pub joined-replicate : (k n : ℕ) (z : A) → joined n (λ i. replicate k z) ≡ replicate (n * k) z

@@ -7,7 +7,7 @@ use native.Mathlib.Nat.{mul-le-mul-right, add-mul, suc-mul, zero-mul, zero-add, 
 use native.Mathlib.Omega.{arith}
 use lib.ListN.{length, take, drop, replicate, length-take, length-drop, length-replicate, replicate-append-replicate}
 use Rattle.lists.specs.Chunks.{part}
-use lib.Seq.{take-at, drop-at, take-add, take-take, drop-drop, take-append-le, drop-append-le, take-nil, take-all}
+use lib.Seq.{take-at, drop-at, take-add, take-take, drop-drop, take-nil, take-all}
 
 -- chunk n of m lies within them, and so does each of its places
 pub room : (k : ℕ) {n m : ℕ} → n < m → n * k + k ≤ m * k
@@ -59,11 +59,6 @@ module _ {A : Type 0} where
       rw (s, ← drop-drop (b - n) n l′, ← drop-drop (b - n) n l, e)
 
   -- a part of the first of two lists, and of the second
-  pub part-left : (a k : ℕ) (p r : List A) → a + k ≤ length p → part a k (p ++ r) ≡ part a k p
-  part-left a k p r h =
-      let b : a ≤ length p = omega arith in
-      let w : k ≤ length (drop a p) = simp length-drop (omega arith) in
-      rw (drop-append-le, take-append-le)
 
   pub part-right : (n a k : ℕ) (p r : List A) → length p ≡ n → part (n + a) k (p ++ r) ≡ part a k r
   part-right n a k p r e = rw (← drop-drop, drop-at p r n e)
@@ -92,11 +87,6 @@ module _ {A : Type 0} where
       let a : take k l ≡ take k l′ = rw zero-mul at (e 0 (zero-lt-suc n)) in
       let b = chunks-take k n (drop k l) (drop k l′) (λ i w. rw (part-next k i l, part-next k i l′) at (e (suc i) (suc-le-suc w))) in
       rw (suc-mul, add-comm (n * k) k, take-add k (n * k) l, take-add, a, b)
-
-  -- and so do parts of n equal chunks, wherever they begin
-  pub part-chunks : (a k n : ℕ) (l l′ : List A)
-      → ((i : ℕ) → i < n → part (a + i * k) k l ≡ part (a + i * k) k l′) → part a (n * k) l ≡ part a (n * k) l′
-  part-chunks a k n l l′ e = chunks-take k n (drop a l) (drop a l′) (λ i w. rw (drop-drop (i * k) a l, drop-drop (i * k) a l′) (e i w))
 
   -- and are equal where that is all they have
   pub chunks-ext : (k n : ℕ) (l l′ : List A) → length l ≡ n * k → length l′ ≡ n * k

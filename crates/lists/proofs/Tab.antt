@@ -6,7 +6,7 @@ use Prim.Native.Nat.{ℕ, zero, suc, _+_, _-_, _≤_, _<_, suc-le-suc}
 use native.Mathlib.Nat.{not-suc-le-zero, le-of-suc-le-suc, zero-add, suc-add, zero-lt-suc}
 use native.Mathlib.Numerals.{add-one}
 use native.Mathlib.Omega.{arith}
-use lib.ListN.{length, getD, set, take, drop, replicate, length-append, length-drop, drop-of-length-le}
+use lib.ListN.{length, getD, set, take, drop, replicate, drop-of-length-le}
 use lib.Seq.{take-at, drop-at, drop-drop, drop-cons, set-at, append-snoc, ext-getD, getD-at}
 use Rattle.lists.specs.Chunks.{tab}
 
@@ -77,10 +77,6 @@ module _ {A : Type 0} where
   -- filled up to j, a list has at j what it had there
   pub tab-next : (j : ℕ) (f : ℕ → A) (l : List A) (d : A) → j < length l → getD (tab j f ++ drop j l) j d ≡ getD l j d
   tab-next j f l d h = rw (drop-cons l j d) (getD-at (tab j f) (getD l j d) (drop (suc j) l) d j (tab-length j f))
-
-  -- and the length that it had
-  pub tab-filled : (j : ℕ) (f : ℕ → A) (l : List A) → j ≤ length l → length (tab j f ++ drop j l) ≡ length l
-  tab-filled j f l h = simp (length-append, tab-length, length-drop) (omega arith)
 
   -- filled to its end, it is the table
   pub tab-full : (n : ℕ) (f : ℕ → A) (l : List A) → length l ≡ n → tab n f ++ drop n l ≡ tab n f

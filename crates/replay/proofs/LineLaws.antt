@@ -3,7 +3,7 @@
 use mathlib.Core.Path.{_≡_, refl, sym, _∙_}
 use mathlib.Core.Bool.{Bool, true, false}
 use mathlib.Core.List.{List}
-use Prim.Native.Nat.{ℕ, _+_, _-_, _≤_, _<_}
+use Prim.Native.Nat.{ℕ, _+_, _≤_, _<_}
 use native.Mathlib.Omega.{arith}
 use lib.Dec.{eqb}
 use lib.ListN.{length, length-take}
@@ -13,7 +13,7 @@ use Rattle.replies.proofs.Refusals.{given-number}
 use Rattle.store.specs.Record.{byteCount}
 use Rattle.store.specs.Calls.{Store, recordRefusals, memoryBytesOf}
 use Rattle.store.specs.declared.Record.{Record}
-use Rattle.store.proofs.StoreLaws.{Sound, sound-record, sound-limits, held-in}
+use Rattle.store.proofs.StoreLaws.{Sound, sound-record, sound-limits, len-in}
 use Rattle.callfile.specs.declared.Entry.{Entry}
 use Rattle.callfile.specs.declared.Entry.the-variants.{Open, Append, Truncate, Advance, Report, End, Bad}
 use Rattle.callfile.specs.Format.{entryAt, sizeOf}
@@ -26,7 +26,7 @@ sound-most : (r : Record) (bytes : ℕ) → Sound r → length (textOf (reported
 sound-most r bytes s =
     let m = sound-limits r s in
     report-most _ bytes _
-    (λ i h. let k : i < r .shape .layers = omega (arith, simp length-take at h) in rw (getD-take {A = ℕ} _ _ i 0 k) (omega (arith, held-in r i s k)))
+    (λ i h. let k : i < r .shape .layers = omega (arith, simp length-take at h) in rw (getD-take {A = ℕ} _ _ i 0 k) (omega (arith, len-in r i s k)))
     (simp length-take (omega arith))
 
 report-by : (r : Record) (t : Bool) → eqb (memoryBytesOf r .reply) 0 ≡ t → length (textOf (reportOf r)) ≤ 700

@@ -47,7 +47,7 @@ pub sides-lent : (n l : ℕ) (keys values : List ℕ) (cache : Store) {k v : Lis
 sides-lent n l keys values cache p q e = let z : n - 0 ≡ n = omega arith in rw (← p, ← q) (rw z at e)
 
 -- a call's answer, told
-pub answered-by : {a : Told} {r : Changed} {cells scales : List ℕ} {o : Outcome Store} → a ≡ told r → left r cells scales ≡ o → effect a cells scales ≡ answers o
+pub answered-by : {a : Told} {r : Changed} {cells scales : List ℕ} {o : Outcome Store} → a ≡ told r → changedStore r cells scales ≡ o → effect a cells scales ≡ answers o
 answered-by p q = rw p (ap answers q)
 
 -- a step, by what stands at its place and what that does

@@ -11,7 +11,7 @@ use Rattle.replies.proofs.Refusals.{rising, still-passed, still-refused
 
 module _ (a : List Refusal) {r n : ℕ} (e : r ≡ lowest a) (q : n ≡ r) where
   -- done or refused by it
-  pub call-done : {A : Type 0} {new left : A} (old : A) → n ≡ 0 → left ≡ new → record { reply = r; result = left } ≡ outcome a new old
+  pub call-done : {A : Type 0} {new result : A} (old : A) → n ≡ 0 → result ≡ new → record { reply = r; result = result } ≡ outcome a new old
   call-done {new = new} old z w = rw (outcome-done a new old (still-passed q e z), w, sym q ∙ z)
 
   pub call-refused : {A : Type 0} {old : A} (new : A) → (n ≡ 0 → ⊥) → record { reply = r; result = old } ≡ outcome a new old

@@ -23,7 +23,7 @@ same-counted a a′ p q =
 
 -- one reply, one record and one content of both buffers meet a statement; one reply and record; one reply and count
 abbrev pub OneStore : Outcome Store → Type 0
-OneStore o = (a a′ : Changed) (c c′ w w′ : List ℕ) → left a c w ≡ o → left a′ c′ w′ ≡ o → (a ≡ a′) × (c ≡ c′) × (w ≡ w′)
+OneStore o = (a a′ : Changed) (c c′ w w′ : List ℕ) → changedStore a c w ≡ o → changedStore a′ c′ w′ ≡ o → (a ≡ a′) × (c ≡ c′) × (w ≡ w′)
 
 abbrev pub OneRecord : Outcome Record → Type 0
 OneRecord o = (a a′ : Changed) → changed a ≡ o → changed a′ ≡ o → a ≡ a′

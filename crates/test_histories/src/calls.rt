@@ -104,7 +104,7 @@ fn call(
             }
             show::reply(reply);
             show::line_end();
-            show::left(rec, cells, scales);
+            show::store(rec, cells, scales);
         }
     }
 }

@@ -27,7 +27,7 @@ pub(crate) fn text(bytes: &[u8]) {
 }
 
 // The record and both buffers.
-pub(crate) fn left(rec: &[u32; 134], cells: &[u8], scales: &[u32]) {
+pub(crate) fn store(rec: &[u32; 134], cells: &[u8], scales: &[u32]) {
     record(rec);
     io::write_all(STDOUT_FILENO, b"cells");
     byte_fields(cells);

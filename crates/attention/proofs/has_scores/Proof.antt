@@ -1,7 +1,6 @@
 -- Each arm is a line of the table, and the last what the table has not.
-use mathlib.Core.Path.{sym, ap}
 use native.Mathlib.Omega.{arith}
-use Rattle.attention.specs.Order.{Scoring, scorings, hasScores}
+use Rattle.attention.specs.Order.{scorings, hasScores}
 use Rattle.attention.proofs.ScoringLaws.{no-scoring}
 use Rattle.attention.proofs.has_scores.Statement.{statement}
 use Rattle.attention.proofs.has_scores.Tie as tie

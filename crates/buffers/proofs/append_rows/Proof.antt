@@ -26,19 +26,19 @@ limited c = room-limits _ _ _ (passed (c .before .has-room .ensures) (c .if1 .le
 tested : (c : tie.After-struct-known4)
     → let a = c .before .before .before .before .before .before .before .before .before .before .args in
     let n = positions (a .shape) (length (a .keys .now)) in
-    ((ltb (a .layer) (a .shape .layers) && leb (a .held + n) (a .shape .capacity)) && wholeRows (a .shape) (length (a .keys .now)) (length (a .values .now)))
-    ≡ (layerFits (a .shape) (a .layer) (a .held + n) (buffers (a .cells .now) (a .scales .now)) && wholeRows (a .shape) (length (a .keys .now)) (length (a .values .now)))
+    ((ltb (a .layer) (a .shape .layers) && leb (a .len + n) (a .shape .capacity)) && wholeRows (a .shape) (length (a .keys .now)) (length (a .values .now)))
+    ≡ (layerFits (a .shape) (a .layer) (a .len + n) (buffers (a .cells .now) (a .scales .now)) && wholeRows (a .shape) (length (a .keys .now)) (length (a .values .now)))
 tested c =
     let a = c .before .before .before .before .before .before .before .before .before .before .args in
     let k = c .before .before .before .before in
     let n = positions (a .shape) (length (a .keys .now)) in
-    rw (layer-left (a .shape) (a .layer) (a .held + n) (buffers (a .cells .now) (a .scales .now)) (passed (k .before .has-room .ensures) (k .if1 .left)))
+    rw (layer-left (a .shape) (a .layer) (a .len + n) (buffers (a .cells .now) (a .scales .now)) (passed (k .before .has-room .ensures) (k .if1 .left)))
 
 -- and past it all does
 fits : (c : tie.Else2)
     → let a = c .before .before .before .before .before .before .before .before .before .before .before .args in
     let n = positions (a .shape) (length (a .keys .now)) in
-    (layerFits (a .shape) (a .layer) (a .held + n) (buffers (a .cells .now) (a .scales .now)) ≡ true)
+    (layerFits (a .shape) (a .layer) (a .len + n) (buffers (a .cells .now) (a .scales .now)) ≡ true)
     × (length (a .keys .now) ≡ n * width (a .shape))
     × (length (a .values .now) ≡ n * width (a .shape))
 fits c =
@@ -51,7 +51,7 @@ returns : tie.Need-returns
 unfolding appendRowsOf
 returns c =
     let a = c .before .before .before .before .before .before .args in
-    rw (← layer-fits (a .shape) (a .layer) (a .held + positions (a .shape) (length (a .keys .now))) (buffers (a .cells .now) (a .scales .now)), failed (c .before .has-room .ensures) (c .if1 .taken))
+    rw (← layer-fits (a .shape) (a .layer) (a .len + positions (a .shape) (length (a .keys .now))) (buffers (a .cells .now) (a .scales .now)), failed (c .before .has-room .ensures) (c .if1 .taken))
 
 mul-width : tie.Need-mul-width
 mul-width c = omega (arith, width-in _ (limited (c .before .before)))
@@ -86,7 +86,7 @@ returns-3 c =
     let k = c .before .before .before .before .before .before .before .before .before .before .before .before .before .before in
     let numbers = sideOf (a .keys .now) (a .values .now) in
     tried-done _ _ (passed (tested (k .before)) (k .if2 .left))
-    (both-sides (a .shape) (a .layer) (a .held) (positions (a .shape) (length (a .keys .now))) (λ side. cellRow (a .shape) (numbers side)) (λ side. scaleRow (a .shape) (numbers side))
+    (both-sides (a .shape) (a .layer) (a .len) (positions (a .shape) (length (a .keys .now))) (λ side. cellRow (a .shape) (numbers side)) (λ side. scaleRow (a .shape) (numbers side))
     (buffers (a .cells .now) (a .scales .now)) (c .before .before .before .before .before .before .before .before .before .before .before .put-positions .ensures) (c .before .before .before .before .put-positions2 .ensures))
 
 pub append-rows-spec : {M : Type 1} → statement M

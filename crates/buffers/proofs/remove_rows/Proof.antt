@@ -18,9 +18,9 @@ use Rattle.buffers.proofs.remove_rows.Tie as tie
 
 tested : (c : tie.After-has-room)
     → let a = c .before .before .before .before .before .args in
-    (c .has-room .result && (ltb (a .layer) (a .shape .layers) && leb (a .held) (a .shape .capacity)))
-    ≡ layerFits (a .shape) (a .layer) (a .held) (buffers (a .cells .now) (a .scales .now))
-tested c = let a = c .before .before .before .before .before .args in rw (c .has-room .ensures) (layer-fits (a .shape) (a .layer) (a .held) (buffers (a .cells .now) (a .scales .now)))
+    (c .has-room .result && (ltb (a .layer) (a .shape .layers) && leb (a .len) (a .shape .capacity)))
+    ≡ layerFits (a .shape) (a .layer) (a .len) (buffers (a .cells .now) (a .scales .now))
+tested c = let a = c .before .before .before .before .before .args in rw (c .has-room .ensures) (layer-fits (a .shape) (a .layer) (a .len) (buffers (a .cells .now) (a .scales .now)))
 
 returns : tie.Need-returns
 unfolding removeRowsOf
@@ -38,7 +38,7 @@ returns-2 c =
     let a = c .before .before .before .before .before .before .before .before .before .before .before .before .before .before .before .before .before .before .before .before .before .args in
     let fits = passed (tested (c .before .before .before .before .before .before .before .before .before .before .before .before .before .before .before .before)) (c .before .before .before .before .before .before .before .before .before .before .before .before .before .before .before .if1 .left) in
     tried-done _ _ fits
-    (both-sides (a .shape) (a .layer) (a .t) (a .held - a .t) (zeros (bytesOf (a .shape))) (zeros (wordsOf (a .shape))) (buffers (a .cells .now) (a .scales .now))
+    (both-sides (a .shape) (a .layer) (a .t) (a .len - a .t) (zeros (bytesOf (a .shape))) (zeros (wordsOf (a .shape))) (buffers (a .cells .now) (a .scales .now))
     (c .before .before .before .before .before .before .before .before .before .before .before .clear-side .ensures) (c .before .before .before .before .clear-side2 .ensures))
 
 returns-3 : tie.Need-returns-3
@@ -46,7 +46,7 @@ unfolding removeRowsOf
 returns-3 c =
     let k = c .before in
     let a = k .before .before .before .before .before .before .args in
-    tried-done _ _ (passed (tested (k .before)) (k .if1 .left)) (sym (removed-none (a .shape) (a .layer) (a .held) _ (a .t) (omega arith)))
+    tried-done _ _ (passed (tested (k .before)) (k .if1 .left)) (sym (removed-none (a .shape) (a .layer) (a .len) _ (a .t) (omega arith)))
 
 pub remove-rows-spec : {M : Type 1} → statement M
 remove-rows-spec =

@@ -1,6 +1,6 @@
 -- The count is no more than the lengths that are left.
 use borrow.Author.Needs.{needs}
-use Prim.Native.Nat.{_-_, _≤_}
+use Prim.Native.Nat.{_≤_}
 use lib.ListN.{length}
 use Rattle.test_histories.proofs.show.used.Statement.{statement}
 use Rattle.test_histories.proofs.show.used.Tie as tie
