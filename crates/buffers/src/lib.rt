@@ -197,7 +197,7 @@ fn clear_side(
     }
 }
 
-// Head `h` of `n` positions. F32 and BF16 are named, so that the back end makes a loop of each in which no format is tested.
+// Head `h` of `n` positions. Each format is named, so that the back end makes a loop of each in which no format is tested.
 fn put_rows(shape: Shape, h: usize, n: usize, numbers: &[u32], cells: &mut [u8], scales: &mut [u32])
     requires { ⌜ RowsFit shape h n (length (now numbers)) (length (now cells)) (length (now scales)) ⌝ }
     ensures cells { λ _. ⌜ now (cells .exit) ≡ joined n (cellRow shape (now (numbers .entry)) h) ⌝ }
@@ -207,6 +207,8 @@ fn put_rows(shape: Shape, h: usize, n: usize, numbers: &[u32], cells: &mut [u8],
     match format {
         0 => put_rows_in(0, shape, h, n, numbers, cells, scales),
         1 => put_rows_in(1, shape, h, n, numbers, cells, scales),
+        2 => put_rows_in(2, shape, h, n, numbers, cells, scales),
+        3 => put_rows_in(3, shape, h, n, numbers, cells, scales),
         _ => put_rows_in(format, shape, h, n, numbers, cells, scales),
     }
 }
