@@ -26,4 +26,5 @@ unfolding hasScores scorings
 returns-5 c = rw (no-scoring (c .before .args .format) (omega arith))
 
 pub has-scores-spec : {M : Type 1} → statement M
-has-scores-spec = tie.close (tie.spec returns returns-2 returns-3 returns-4 returns-5)
+has-scores-spec =
+    tie.close (tie.spec returns returns-2 returns-3 returns-4 returns-5)

@@ -93,18 +93,5 @@ pub append-rows-spec : {M : Type 1} → statement M
 append-rows-spec =
     tie.close
     (tie.spec
-    (λ c κs. search needs)
-    returns
-    (λ c. search needs)
-    (λ c. search needs)
-    mul-width
-    div-n
-    add-fits
-    (λ c. search needs)
-    rem-whole
-    returns-2
-    put-positions-requires
-    put-positions-requires-2
-    (λ c. search needs)
-    (λ c. search needs)
-    returns-3)
+    (λ c κs. search needs) returns (λ c. search needs) (λ c. search needs) mul-width div-n add-fits (λ c. search needs) rem-whole
+    returns-2 put-positions-requires put-positions-requires-2 (λ c. search needs) (λ c. search needs) returns-3)

@@ -106,35 +106,8 @@ pub clear-side-spec : {M : Type 1} → statement M
 clear-side-spec =
     tie.close
     (tie.spec
-    Inv-loop
-    μ-loop
-    (λ c κs. search needs)
-    (λ c. search needs)
-    (λ c κs. search needs)
-    mul-c
-    (λ c. search needs)
-    (λ c κs. search needs)
-    mul-w
-    loop-holds
-    (λ c. search needs)
-    mul-a
-    mul-b
-    add-zero-cells
-    add-zero-cells-2
-    sub-zero-cells
-    part-zero-cells-start
-    part-zero-cells-end
-    (λ c κs. search needs)
-    add-zero-words
-    add-zero-words-2
-    mul-zero-words
-    sub-zero-words
-    part-zero-words-start
-    part-zero-words-end
-    (λ c κs. search needs)
-    (λ c. search needs)
-    loop-less
-    loop-again
-    same-length
-    same-length-2
-    returns)
+    Inv-loop μ-loop (λ c κs. search needs) (λ c. search needs) (λ c κs. search needs) mul-c (λ c. search needs)
+    (λ c κs. search needs) mul-w loop-holds (λ c. search needs) mul-a mul-b add-zero-cells add-zero-cells-2 sub-zero-cells
+    part-zero-cells-start part-zero-cells-end (λ c κs. search needs) add-zero-words add-zero-words-2 mul-zero-words sub-zero-words
+    part-zero-words-start part-zero-words-end (λ c κs. search needs) (λ c. search needs) loop-less loop-again same-length
+    same-length-2 returns)

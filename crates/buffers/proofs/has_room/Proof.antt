@@ -20,4 +20,5 @@ returns c =
     rw (c .number .ensures, c .before .room-reply .ensures) (no-refusal (within (a .shape)) (exact (a .shape) (a .cells) (a .scales)))
 
 pub has-room-spec : {M : Type 1} → statement M
-has-room-spec = tie.close (tie.spec (λ c κs. search needs) (λ c κs. search needs) returns)
+has-room-spec =
+    tie.close (tie.spec (λ c κs. search needs) (λ c κs. search needs) returns)

@@ -134,26 +134,6 @@ pub put-positions-spec : {M : Type 1} → statement M
 put-positions-spec =
     tie.close
     (tie.spec
-    Inv-loop
-    μ-loop
-    (λ c. search needs)
-    (λ c. search needs)
-    mul-width
-    loop-holds
-    (λ c. search needs)
-    (λ c κs. search needs)
-    mul-a
-    add-put-side
-    mul-put-side
-    add-put-side-2
-    mul-put-side-2
-    sub-put-side
-    part-put-side-start
-    part-put-side-end
-    put-side-requires
-    add-j
-    loop-less
-    loop-again
-    same-length
-    same-length-2
-    returns)
+    Inv-loop μ-loop (λ c. search needs) (λ c. search needs) mul-width loop-holds (λ c. search needs) (λ c κs. search needs) mul-a
+    add-put-side mul-put-side add-put-side-2 mul-put-side-2 sub-put-side part-put-side-start part-put-side-end put-side-requires
+    add-j loop-less loop-again same-length same-length-2 returns)

@@ -93,37 +93,8 @@ pub put-rows-in-spec : {M : Type 1} → statement M
 put-rows-in-spec =
     tie.close
     (tie.spec
-    Inv-loop
-    μ-loop
-    (λ c. search needs)
-    (λ c κs. search needs)
-    (λ c κs. search needs)
-    (λ c. search needs)
-    mul-width
-    loop-holds
-    mul-from
-    mul-from-2
-    add-from
-    mul-a
-    mul-b
-    add-put-row
-    mul-put-row
-    (λ c. search needs)
-    (λ c. search needs)
-    part-put-row-end
-    add-put-row-2
-    (λ c. search needs)
-    (λ c. search needs)
-    part-put-row-end-2
-    add-put-row-3
-    mul-put-row-2
-    (λ c. search needs)
-    (λ c. search needs)
-    part-put-row-end-3
-    (λ c κs. search needs)
-    (λ c. search needs)
-    (λ c. search needs)
-    loop-again
-    (λ c. search needs)
-    (λ c. search needs)
-    returns)
+    Inv-loop μ-loop (λ c. search needs) (λ c κs. search needs) (λ c κs. search needs) (λ c. search needs) mul-width loop-holds
+    mul-from mul-from-2 add-from mul-a mul-b add-put-row mul-put-row (λ c. search needs) (λ c. search needs) part-put-row-end
+    add-put-row-2 (λ c. search needs) (λ c. search needs) part-put-row-end-2 add-put-row-3 mul-put-row-2 (λ c. search needs)
+    (λ c. search needs) part-put-row-end-3 (λ c κs. search needs) (λ c. search needs) (λ c. search needs) loop-again
+    (λ c. search needs) (λ c. search needs) returns)

@@ -123,34 +123,7 @@ pub put-side-spec : {M : Type 1} → statement M
 put-side-spec =
     tie.close
     (tie.spec
-    Inv-loop
-    μ-loop
-    (λ c κs. search needs)
-    (λ c. search needs)
-    (λ c κs. search needs)
-    mul-c
-    (λ c. search needs)
-    (λ c κs. search needs)
-    mul-w
-    loop-holds
-    (λ c. search needs)
-    mul-a
-    mul-b
-    add-put-rows
-    add-put-rows-2
-    sub-put-rows
-    part-put-rows-start
-    part-put-rows-end
-    add-put-rows-3
-    add-put-rows-4
-    mul-put-rows
-    sub-put-rows-2
-    part-put-rows-start-2
-    part-put-rows-end-2
-    put-rows-requires
-    (λ c. search needs)
-    loop-less
-    loop-again
-    same-length
-    same-length-2
-    returns)
+    Inv-loop μ-loop (λ c κs. search needs) (λ c. search needs) (λ c κs. search needs) mul-c (λ c. search needs)
+    (λ c κs. search needs) mul-w loop-holds (λ c. search needs) mul-a mul-b add-put-rows add-put-rows-2 sub-put-rows
+    part-put-rows-start part-put-rows-end add-put-rows-3 add-put-rows-4 mul-put-rows sub-put-rows-2 part-put-rows-start-2
+    part-put-rows-end-2 put-rows-requires (λ c. search needs) loop-less loop-again same-length same-length-2 returns)

@@ -52,13 +52,5 @@ pub remove-rows-spec : {M : Type 1} → statement M
 remove-rows-spec =
     tie.close
     (tie.spec
-    (λ c κs. search needs)
-    returns
-    (λ c. search needs)
-    (λ c. search needs)
-    clear-side-requires
-    clear-side-requires-2
-    (λ c. search needs)
-    (λ c. search needs)
-    returns-2
-    returns-3)
+    (λ c κs. search needs) returns (λ c. search needs) (λ c. search needs) clear-side-requires clear-side-requires-2
+    (λ c. search needs) (λ c. search needs) returns-2 returns-3)

@@ -31,12 +31,4 @@ pub zero-cells-spec : {M : Type 1} → statement M
 zero-cells-spec =
     tie.close
     (tie.spec
-    Inv-loop
-    μ-loop
-    (λ c. search needs)
-    (λ c. search needs)
-    add-i
-    loop-less
-    loop-again
-    (λ c. search needs)
-    returns)
+    Inv-loop μ-loop (λ c. search needs) (λ c. search needs) add-i loop-less loop-again (λ c. search needs) returns)

@@ -31,13 +31,5 @@ pub zero-words-spec : {M : Type 1} → statement M
 zero-words-spec =
     tie.close
     (tie.spec
-    Inv-loop
-    μ-loop
-    (λ c. search needs)
-    (λ c. search needs)
-    (λ c. search needs)
-    add-i
-    loop-less
-    loop-again
-    (λ c. search needs)
+    Inv-loop μ-loop (λ c. search needs) (λ c. search needs) (λ c. search needs) add-i loop-less loop-again (λ c. search needs)
     returns)

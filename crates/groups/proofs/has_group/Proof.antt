@@ -13,4 +13,5 @@ unfolding holds
 returns-2 c = rw (le-leb _ _ (c .if1 .left))
 
 pub has-group-spec : {M : Type 1} → statement M
-has-group-spec = tie.close (tie.spec returns returns-2)
+has-group-spec =
+    tie.close (tie.spec returns returns-2)

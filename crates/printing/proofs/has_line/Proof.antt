@@ -19,4 +19,5 @@ returns-2 : tie.Need-returns-2
 returns-2 c = moved (c .before .args .at) (c .before .args .size) _ (c .if1 .left) refl
 
 pub has-line-spec : {M : Type 1} → statement M
-has-line-spec = tie.close (tie.spec returns returns-2)
+has-line-spec =
+    tie.close (tie.spec returns returns-2)

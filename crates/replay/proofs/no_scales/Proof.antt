@@ -7,4 +7,5 @@ returns : tie.Need-returns
 returns c = refl
 
 pub no-scales-spec : {M : Type 1} → statement M
-no-scales-spec = tie.close (tie.spec returns)
+no-scales-spec =
+    tie.close (tie.spec returns)

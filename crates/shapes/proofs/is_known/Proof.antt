@@ -9,4 +9,5 @@ unfolding known layouts
 returns c = search needs
 
 pub is-known-spec : {M : Type 1} → statement M
-is-known-spec = tie.close (tie.spec returns)
+is-known-spec =
+    tie.close (tie.spec returns)

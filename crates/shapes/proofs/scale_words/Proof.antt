@@ -28,4 +28,5 @@ unfolding scaleWords layouts
 returns-5 c = sym (ap (λ (f : Layout). f .words (c .before .args .«head-size»)) (unknown (c .before .args .format) (omega arith)))
 
 pub scale-words-spec : {M : Type 1} → statement M
-scale-words-spec = tie.close (tie.spec returns returns-2 returns-3 returns-4 returns-5)
+scale-words-spec =
+    tie.close (tie.spec returns returns-2 returns-3 returns-4 returns-5)

@@ -26,4 +26,5 @@ unfolding wholeGroups layouts
 returns-5 c = rw (unknown (c .before .args .format) (omega arith), ones)
 
 pub whole-groups-spec : {M : Type 1} → statement M
-whole-groups-spec = tie.close (tie.spec returns returns-2 returns-3 returns-4 returns-5)
+whole-groups-spec =
+    tie.close (tie.spec returns returns-2 returns-3 returns-4 returns-5)

@@ -62,18 +62,5 @@ pub append-spec : {M : Type 1} → statement M
 append-spec =
     tie.close
     (tie.spec
-    (λ c κs. search needs)
-    (λ c κs. search needs)
-    returns
-    (λ c κs. search needs)
-    (λ c. search needs)
-    (λ c. search needs)
-    mul-n
-    div-n
-    cast-with-length
-    add-with-length
-    with-length-requires
-    (λ c κs. search needs)
-    (λ c. search needs)
-    (λ c. search needs)
-    returns-2)
+    (λ c κs. search needs) (λ c κs. search needs) returns (λ c κs. search needs) (λ c. search needs) (λ c. search needs) mul-n div-n
+    cast-with-length add-with-length with-length-requires (λ c κs. search needs) (λ c. search needs) (λ c. search needs) returns-2)

@@ -54,19 +54,6 @@ pub append-reply-spec : {M : Type 1} → statement M
 append-reply-spec =
     tie.close
     (tie.spec
-    (λ c κs. search needs)
-    (λ c κs. search needs)
-    returns
-    (λ c. search needs)
-    (λ c. search needs)
-    mul-width
-    (λ c κs. search needs)
-    (λ c. search needs)
-    div-after
-    add-after
-    (λ c. search needs)
-    (λ c κs. search needs)
-    rem-whole
-    (λ c κs. search needs)
-    (λ c κs. search needs)
-    returns-2)
+    (λ c κs. search needs) (λ c κs. search needs) returns (λ c. search needs) (λ c. search needs) mul-width (λ c κs. search needs)
+    (λ c. search needs) div-after add-after (λ c. search needs) (λ c κs. search needs) rem-whole (λ c κs. search needs)
+    (λ c κs. search needs) returns-2)

@@ -60,17 +60,5 @@ pub bytes-of-layers-spec : {M : Type 1} → statement M
 bytes-of-layers-spec =
     tie.close
     (tie.spec
-    Inv-loop
-    μ-loop
-    position-bytes-requires
-    loop-holds
-    (λ c. search needs)
-    (λ c. search needs)
-    element-copy-out-sum
-    (λ c. search needs)
-    mul-sum-2
-    add-sum
-    add-l
-    (λ c. search needs)
-    loop-again
-    returns)
+    Inv-loop μ-loop position-bytes-requires loop-holds (λ c. search needs) (λ c. search needs) element-copy-out-sum
+    (λ c. search needs) mul-sum-2 add-sum add-l (λ c. search needs) loop-again returns)

@@ -12,4 +12,5 @@ returns-2 c =
     sym (List·getD-eq-default (c .before .args .t1 .lens) 0 (omega arith))
 
 pub length-of-spec : {M : Type 1} → statement M
-length-of-spec = tie.close (tie.spec (λ c. search needs) (λ c. search needs) (λ c. search needs) returns-2)
+length-of-spec =
+    tie.close (tie.spec (λ c. search needs) (λ c. search needs) (λ c. search needs) returns-2)

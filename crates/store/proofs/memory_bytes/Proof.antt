@@ -21,5 +21,4 @@ returns-2 c =
 
 pub memory-bytes-spec : {M : Type 1} → statement M
 memory-bytes-spec =
-    tie.close
-    (tie.spec (λ c κs. search needs) (λ c κs. search needs) returns bytes-of-layers-requires returns-2)
+    tie.close (tie.spec (λ c κs. search needs) (λ c κs. search needs) returns bytes-of-layers-requires returns-2)

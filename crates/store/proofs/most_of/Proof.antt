@@ -11,4 +11,5 @@ returns-2 : tie.Need-returns-2
 returns-2 c = rw (le-ltb (c .before .before .args .l) (c .before .before .args .shape .layers) (c .if1 .left))
 
 pub most-of-spec : {M : Type 1} → statement M
-most-of-spec = tie.close (tie.spec (λ c. search needs) returns returns-2)
+most-of-spec =
+    tie.close (tie.spec (λ c. search needs) returns returns-2)

@@ -23,11 +23,4 @@ pub position-bytes-spec : {M : Type 1} → statement M
 position-bytes-spec =
     tie.close
     (tie.spec
-    (λ c κs. search needs)
-    (λ c κs. search needs)
-    mul-row
-    add-row
-    (λ c. search needs)
-    (λ c. search needs)
-    mul-result-2
-    returns)
+    (λ c κs. search needs) (λ c κs. search needs) mul-row add-row (λ c. search needs) (λ c. search needs) mul-result-2 returns)

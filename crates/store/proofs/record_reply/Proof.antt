@@ -10,4 +10,5 @@ returns c =
     rw (c .refuse2 .ensures, c .before .is-within .ensures, c .before .before .refuse .ensures, c .before .before .before .has-good-lengths .ensures)
 
 pub record-reply-spec : {M : Type 1} → statement M
-record-reply-spec = tie.close (tie.spec (λ c κs. search needs) (λ c κs. search needs) (λ c κs. search needs) (λ c κs. search needs) returns)
+record-reply-spec =
+    tie.close (tie.spec (λ c κs. search needs) (λ c κs. search needs) (λ c κs. search needs) (λ c κs. search needs) returns)

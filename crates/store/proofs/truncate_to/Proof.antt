@@ -41,13 +41,5 @@ pub truncate-to-spec : {M : Type 1} → statement M
 truncate-to-spec =
     tie.close
     (tie.spec
-    (λ c κs. search needs)
-    (λ c κs. search needs)
-    returns
-    (λ c κs. search needs)
-    (λ c κs. search needs)
-    with-length-requires
-    (λ c κs. search needs)
-    (λ c. search needs)
-    (λ c. search needs)
-    returns-2)
+    (λ c κs. search needs) (λ c κs. search needs) returns (λ c κs. search needs) (λ c κs. search needs) with-length-requires
+    (λ c κs. search needs) (λ c. search needs) (λ c. search needs) returns-2)

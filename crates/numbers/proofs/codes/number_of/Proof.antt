@@ -13,4 +13,5 @@ returns-2 : tie.Need-returns-2
 returns-2 c = let n = is-false (isNan (c .before .args .q)) (no-nan _ (c .if1 .left)) in rw n
 
 pub number-of-spec : {M : Type 1} → statement M
-number-of-spec = tie.close (tie.spec returns returns-2)
+number-of-spec =
+    tie.close (tie.spec returns returns-2)

@@ -23,4 +23,5 @@ returns-3 : tie.Need-returns-3
 returns-3 c = absurd (scored-other (c .before .before .before .before .args .format) (c .before .before .before .before .pre .0) (λ e. omega arith) (λ e. omega arith))
 
 pub score-row-spec : {M : Type 1} → statement M
-score-row-spec = tie.close (tie.spec score-f32-requires score-int4-requires returns returns-2 returns-3)
+score-row-spec =
+    tie.close (tie.spec score-f32-requires score-int4-requires returns returns-2 returns-3)
