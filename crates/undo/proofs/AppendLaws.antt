@@ -15,7 +15,7 @@ use Rattle.shapes.proofs.ShapeLaws.{within-limits, width-in}
 use Rattle.store.specs.Record.{lengthOf}
 use Rattle.store.specs.Calls.{Store}
 use Rattle.undo.specs.Sequence.{Call, append, does, accepted}
-use Rattle.undo.specs.Survivors.{Rows, noRows, rowsOf, keysOf, valuesOf, kept, keptFrom, survivors, oneAppendEach}
+use Rattle.undo.specs.Survivors.{Rows, noRows, rowsOf, keysOf, valuesOf, rowsAfter, rowsAfterAll, survivors, oneAppendEach}
 use Rattle.undo.proofs.StoreLaws.{Renders, append-accepted}
 use Rattle.undo.proofs.RunLaws.{step}
 use Rattle.undo.proofs.NumberLaws.{keys-size, values-size, cut-again}
@@ -35,19 +35,19 @@ module _ (s : Shape) (of : ℕ → Rows) where
   listed a (suc n) = simp (add-zero, add-suc) (ap (λ (calls : List Call). one a ∷ calls) (simp suc-add at (listed (suc a) n)))
 
   -- the rows of layer l after them: as they were where l is before a, and its own added where l is among them
-  as-before : (l : ℕ) (r : Rows) (a n : ℕ) → l < a → keptFrom s l r (from a n) ≡ r
-  unfolding keptFrom from
+  as-before : (l : ℕ) (r : Rows) (a n : ℕ) → l < a → rowsAfterAll s l r (from a n) ≡ r
+  unfolding rowsAfterAll from
   as-before l r a zero w = refl
-  as-before l r a (suc n) w = rw (ne-eqb a l (λ h. omega arith), keptFrom) (as-before l r (suc a) n (omega arith))
+  as-before l r a (suc n) w = rw (ne-eqb a l (λ h. omega arith), rowsAfterAll) (as-before l r (suc a) n (omega arith))
 
   own-added : (l : ℕ) (r : Rows) (a n : ℕ) → a ≤ l → l < a + n → (flag : Bool) → eqb a l ≡ flag
-      → keptFrom s l r (from a n) ≡ r ++ rowsOf s (keysOf (of l)) (valuesOf (of l))
-  unfolding keptFrom from
+      → rowsAfterAll s l r (from a n) ≡ r ++ rowsOf s (keysOf (of l)) (valuesOf (of l))
+  unfolding rowsAfterAll from
   own-added l r a zero w v flag q = absurd (omega arith)
-  own-added l r a (suc n) w v true q = let d = eqb-true a l q in rw (q, keptFrom, d) (as-before l _ (suc l) n (omega arith))
+  own-added l r a (suc n) w v true q = let d = eqb-true a l q in rw (q, rowsAfterAll, d) (as-before l _ (suc l) n (omega arith))
   own-added l r a (suc n) w v false q =
       let d = eqb-false a l q in
-      rw (q, keptFrom) (own-added l r (suc a) n (omega arith) (omega arith) (eqb (suc a) l) refl)
+      rw (q, rowsAfterAll) (own-added l r (suc a) n (omega arith) (omega arith) (eqb (suc a) l) refl)
 
   -- the rows of a layer of store v fit, so that each is accepted by a store that has no rows from layer a on
   module _ {v : Store} (y : Renders s v of) where
@@ -65,7 +65,7 @@ module _ (s : Shape) (of : ℕ → Rows) where
     all-accepted a zero w x none = refl
     all-accepted a (suc n) {t} {now} w x none =
         let r : does (one a) t .reply ≡ 0 = one-accepted a x (none a (omega arith)) (omega arith) in
-        let still : (l : ℕ) → suc a ≤ l → cond (eqb (does (one a) t .reply) 0) (kept s l (now l) (one a)) (now l) ≡ noRows =
+        let still : (l : ℕ) → suc a ≤ l → cond (eqb (does (one a) t .reply) 0) (rowsAfter s l (now l) (one a)) (now l) ≡ noRows =
         λ l b. rw (r, ne-eqb a l (λ h. omega arith)) (none l (omega arith)) in
         rw (r, all-accepted (suc a) n (omega arith) (step (one a) x) still)
 

@@ -15,7 +15,7 @@ use Rattle.store.specs.declared.Record.{Record}
 use Rattle.store.specs.Record.{lengthOf, withLength, withSeqLen}
 use Rattle.store.specs.Calls.{store}
 use Rattle.store.proofs.LengthLaws.{set-has, set-own, set-other, seq-has}
-use Rattle.undo.specs.Survivors.{Rows, rowsOf, kept}
+use Rattle.undo.specs.Survivors.{Rows, rowsOf, rowsAfter}
 use Rattle.undo.specs.Sequence.{append, truncate}
 use Rattle.undo.proofs.LayerLaws.{HasRows, Sizes, append-sizes, append-others, append-own}
 use Rattle.undo.proofs.CutLaws.{truncate-sizes, truncate-others, truncate-own}
@@ -49,7 +49,7 @@ module _ {r : Record} {b : Buffers} {of : ℕ → Rows} (x : Renders (r .shape) 
       → wholeRows (r .shape) (length keys) (length values) ≡ true → lengthOf r l + positions (r .shape) (length keys) ≤ r .shape .capacity
       → Renders (r .shape) (store (withLength r l (lengthOf r l + positions (r .shape) (length keys)))
       (appended (r .shape) l (lengthOf r l) keys values b))
-      (λ m. kept (r .shape) m (of m) (append l keys values))
+      (λ m. rowsAfter (r .shape) m (of m) (append l keys values))
   append-done l keys values w q v =
       let len = lengthOf r l in
       layer-changed l _ (λ m. of m ++ rowsOf (r .shape) keys values) _ w (append-own b (in-room x w) len keys values q v (x .layer l))
@@ -58,7 +58,7 @@ module _ {r : Record} {b : Buffers} {of : ℕ → Rows} (x : Renders (r .shape) 
 
   pub truncate-done : (l n : ℕ) → l < r .shape .layers
       → Renders (r .shape) (store (withLength r l (min (lengthOf r l) n)) (removed (r .shape) l (lengthOf r l) n b))
-      (λ m. kept (r .shape) m (of m) (truncate l n))
+      (λ m. rowsAfter (r .shape) m (of m) (truncate l n))
   truncate-done l n w =
       let len = lengthOf r l in
       let v : len ≤ r .shape .capacity = rw (lt-ltb l (r .shape .layers) w) at (x .layer l .span) in

@@ -15,7 +15,7 @@ use Rattle.store.specs.declared.Record.{Record}
 use Rattle.store.specs.Record.{seqLen, lengthOf, withSeqLen}
 use Rattle.store.specs.Calls.{Store, store, storeRefusals, recordRefusals, appendRefusals, removeRefusals, appendOf, truncateOf, advanceOf}
 use Rattle.undo.specs.Sequence.{Call, append, truncate, advance, reads, does, run, counted, accepted}
-use Rattle.undo.specs.Survivors.{Rows, kept, keptFrom}
+use Rattle.undo.specs.Survivors.{Rows, rowsAfter, rowsAfterAll}
 use Rattle.undo.proofs.StoreLaws.{Renders}
 use Rattle.undo.proofs.ChangeLaws.{append-done, truncate-done, advance-done}
 
@@ -35,7 +35,7 @@ outcome-renders refusals up x y = either (eqb (lowest refusals) 0) (λ h. x (low
 
 -- after call c: the rows that it keeps where it is accepted, and all rows where it is refused
 abbrev Steps : Shape → Store → (ℕ → Rows) → Call → Type 0
-Steps s t of c = Renders s (does c t .result) (λ l. cond (eqb (does c t .reply) 0) (kept s l (of l) c) (of l))
+Steps s t of c = Renders s (does c t .result) (λ l. cond (eqb (does c t .reply) 0) (rowsAfter s l (of l) c) (of l))
 
 module _ {r : Record} {b : Buffers} {of : ℕ → Rows} (x : Renders (r .shape) (store r b) of) where
   append-step : (l : ℕ) (keys values : List ℕ) → Steps (r .shape) (store r b) of (append l keys values)
@@ -78,14 +78,14 @@ step {s} {t} {of} c x = subst (λ (s : Shape). Renders s t of → Steps s t of c
 
 -- a run of calls
 kept-next : (s : Shape) (l : ℕ) (r : Rows) (c : Call) (others : List Call) (flag : Bool)
-    → keptFrom s l (cond flag (kept s l r c) r) others ≡ keptFrom s l r (counted flag c others)
-unfolding keptFrom
+    → rowsAfterAll s l (cond flag (rowsAfter s l r c) r) others ≡ rowsAfterAll s l r (counted flag c others)
+unfolding rowsAfterAll
 kept-next s l r c others true = refl
 kept-next s l r c others false = refl
 
 pub run-renders : {s : Shape} {t : Store} {of : ℕ → Rows} (calls : List Call) → Renders s t of
-    → Renders s (run calls t) (λ l. keptFrom s l (of l) (accepted calls t))
-unfolding run accepted keptFrom
+    → Renders s (run calls t) (λ l. rowsAfterAll s l (of l) (accepted calls t))
+unfolding run accepted rowsAfterAll
 run-renders [] x = x
 run-renders {s} {t} {of} (c ∷ calls) x =
     renders-same (λ l. kept-next s l (of l) c (accepted calls (does c t .result)) (eqb (does c t .reply) 0)) (run-renders calls (step c x))

@@ -42,19 +42,19 @@ abbrev pub valuesOf : Rows → List ℕ
 valuesOf r = joined (length r) (λ p. positionAt r p .values)
 
 -- an append to layer l adds its rows at the end, a truncation of layer l to n keeps the first n; every other call keeps all
-abbrev pub kept : Shape → ℕ → Rows → Call → Rows
-kept s l r (append m keys values) = cond (eqb m l) (r ++ rowsOf s keys values) r
-kept s l r (truncate m n) = cond (eqb m l) (take n r) r
-kept s l r (advance count) = r
-kept s l r (reads reply) = r
+abbrev pub rowsAfter : Shape → ℕ → Rows → Call → Rows
+rowsAfter s l r (append m keys values) = cond (eqb m l) (r ++ rowsOf s keys values) r
+rowsAfter s l r (truncate m n) = cond (eqb m l) (take n r) r
+rowsAfter s l r (advance count) = r
+rowsAfter s l r (reads reply) = r
 
 -- the rows of layer l after calls that were all accepted, from rows r, and from none
-unfoldable pub keptFrom : Shape → ℕ → Rows → List Call → Rows
-keptFrom s l r [] = r
-keptFrom s l r (c ∷ calls) = keptFrom s l (kept s l r c) calls
+unfoldable pub rowsAfterAll : Shape → ℕ → Rows → List Call → Rows
+rowsAfterAll s l r [] = r
+rowsAfterAll s l r (c ∷ calls) = rowsAfterAll s l (rowsAfter s l r c) calls
 
 abbrev pub survivors : Shape → List Call → ℕ → Rows
-survivors s calls l = keptFrom s l noRows calls
+survivors s calls l = rowsAfterAll s l noRows calls
 
 -- each layer's rows appended in one call
 abbrev pub oneAppendEach : Shape → (ℕ → Rows) → List Call

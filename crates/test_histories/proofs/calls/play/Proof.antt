@@ -9,10 +9,10 @@ use Rattle.test_histories.proofs.calls.play.Statement.{statement}
 use Rattle.test_histories.proofs.calls.play.Tie as tie
 
 abbrev Inv-loop : tie.InvT-loop
-Inv-loop text rec₀ lent₀ cells₀ scales₀ kept₀ counts₀ at₀ rec lent cells scales survivors counts at = (at ≤ length text + 1) × (length cells ≡ length cells₀) × (length scales ≡ length scales₀)
+Inv-loop text rec₀ lent₀ cells₀ scales₀ survivors₀ counts₀ at₀ rec lent cells scales survivors counts at = (at ≤ length text + 1) × (length cells ≡ length cells₀) × (length scales ≡ length scales₀)
 
 abbrev μ-loop : tie.MeasureT-loop
-μ-loop text rec₀ lent₀ cells₀ scales₀ kept₀ counts₀ at₀ rec lent cells scales survivors counts at = length text + 1 - at
+μ-loop text rec₀ lent₀ cells₀ scales₀ survivors₀ counts₀ at₀ rec lent cells scales survivors counts at = length text + 1 - at
 
 add-end : tie.Need-add-end Inv-loop μ-loop
 add-end c =

@@ -5,10 +5,10 @@ use Rattle.test_histories.proofs.fresh.keep.Statement.{statement}
 use Rattle.test_histories.proofs.fresh.keep.Tie as tie
 
 abbrev Inv-loop : tie.InvT-loop
-Inv-loop line k n kept₀ at i₀ survivors i = i ≤ n
+Inv-loop line k n survivors₀ at i₀ survivors i = i ≤ n
 
 abbrev μ-loop : tie.MeasureT-loop
-μ-loop line k n kept₀ at i₀ survivors i = n - i
+μ-loop line k n survivors₀ at i₀ survivors i = n - i
 
 pub keep-spec : {M : Type 1} → statement M
 keep-spec =
