@@ -150,7 +150,7 @@ struct Tally {
     nans: u32,
 }
 
-// One row's term more, and one number more of a row behind it. They take turns: eight places a row apart would each be counted up from the last.
+// One row's term more, and one number more of a row behind it. Interleaved, so that the back end keeps one induction variable instead of eight.
 fn with_term(t: Tally, weight: f32, cells: &[u8], next: &[u8], d: usize) -> Tally
     requires { ⌜
         (d * 4 + 4 ≤ length (now cells))
