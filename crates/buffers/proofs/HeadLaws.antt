@@ -18,13 +18,13 @@ use Rattle.encode.specs.Encode.{putRowOf}
 use Rattle.encode.proofs.EncodeLaws.{put-left}
 use Rattle.rows.proofs.FitLaws.{RowFits, shape-fits}
 use Rattle.buffers.specs.Calls.{headNumbers}
-use Rattle.buffers.specs.Fits.{RowsFit}
+use Rattle.buffers.specs.Fits.{HeadRows}
 use Rattle.buffers.proofs.RunLaws.{numbers-in, run-lent, cell-rows, scale-rows}
 
 -- n rows of head h, of c cells and w scale words each, in the shape's format
-pub record Rows (s : Shape) (format h n c w : ℕ) (numbers cells scales : List ℕ) : Type 0 where
+pub record RowsPassed (s : Shape) (format h n c w : ℕ) (numbers cells scales : List ℕ) : Type 0 where
   pub named : format ≡ s .format
-  pub fits : RowsFit s h n (length numbers) (length cells) (length scales)
+  pub fits : HeadRows s h n (length numbers) (length cells) (length scales)
   pub cell-row : c ≡ cellBytes format (headSize s)
   pub scale-row : w ≡ scaleWords format (headSize s)
 
@@ -34,7 +34,7 @@ pub record RowIn (s : Shape) (h c w i numbers cells scales : ℕ) : Type 0 where
   pub cells-in : i * c + c ≤ cells
   pub words-in : i * w + w ≤ scales
 
-module _ {s : Shape} {format h n c w : ℕ} {numbers cells scales : List ℕ} (k : Rows s format h n c w numbers cells scales) where
+module _ {s : Shape} {format h n c w : ℕ} {numbers cells scales : List ℕ} (k : RowsPassed s format h n c w numbers cells scales) where
   abbrev cellsOf : ℕ → List ℕ
   cellsOf i = rowCells format (headNumbers s numbers h i)
 
@@ -51,8 +51,8 @@ module _ {s : Shape} {format h n c w : ℕ} {numbers cells scales : List ℕ} (k
       let f = k .fits in
       rw (k .scale-row, k .named) (over (scale-rows s n (f .in-limits) numbers (f .numbers-size) h (f .head)) (f .scale-size))
 
-  pub row-in : {i : ℕ} → i < n → RowIn s h c w i (length numbers) (length cells) (length scales)
-  row-in v =
+  pub row-there : {i : ℕ} → i < n → RowIn s h c w i (length numbers) (length cells) (length scales)
+  row-there v =
       record {
         run-in = rw (k .fits .numbers-size) (numbers-in s v (k .fits .head));
         cells-in = chunk-in in-cells v;
@@ -71,7 +71,7 @@ module _ {s : Shape} {format h n c w : ℕ} {numbers cells scales : List ℕ} (k
       → Passed c n (λ i x. cellsOf i) cells (i + 1) (take (i * c) out ++ (y ++ drop (i * c + c - i * c) (drop (i * c) out)))
       × Passed w n (λ i x. scalesOf i) scales (i + 1) (take (i * w) out′ ++ (z ++ drop (i * w + w - i * w) (drop (i * w) out′)))
   row-turn {i} {out = out} {out′ = out′} v o o′ q =
-      let r = row-in v in
+      let r = row-there v in
       let from = i * width s + h * headSize s in
       let run = run-lent s numbers h i refl in
       let fits = row-fits

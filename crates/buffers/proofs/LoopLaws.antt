@@ -62,7 +62,7 @@ head-ends {s} {l} {side} {h} {p} {n} b k few t u v w =
     }
 
 -- in both buffers, whose rows have c and w elements
-pub record BlockIn (s : Shape) (l side h p n c w : ℕ) (first : Span) (cells scales : ℕ) : Type 0 where
+pub record HeadIn (s : Shape) (l side h p n c w : ℕ) (first : Span) (cells scales : ℕ) : Type 0 where
   pub cells-at : let d = h * (s .capacity * c) in Ends (bytesOf s) s l side h p n cells (first .«cells_from» + d) (first .«cells_to» + d)
   pub words-at : let d = h * (s .capacity * w) in Ends (wordsOf s) s l side h p n scales (first .«scales_from» + d) (first .«scales_to» + d)
 
@@ -82,7 +82,7 @@ module _ {s : Shape} {l side p n cells scales : ℕ} (k : InLayer s l side p n c
   head-span w = record { in-limits = k .in-limits; layer-in = k .layer-in; side-in = k .side-in; head-in = w; span = k .span }
 
   pub block-in : {h c w x y : ℕ} {first : Span} → h < s .heads → first ≡ spanOf s l side 0 p n → c ≡ bytesOf s → w ≡ wordsOf s → x ≡ cells → y ≡ scales
-      → BlockIn s l side h p n c w first x y
+      → HeadIn s l side h p n c w first x y
   block-in v e c w x y =
       let first = e ∙ spanned (head-span (limited .heads-in .0)) in
       record {

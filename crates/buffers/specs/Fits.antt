@@ -16,7 +16,7 @@ pub record InLayer (s : Shape) (l side p n cells scales : ℕ) : Type 0 where
   pub scale-size : scales ≡ scaleTotal s
 
 -- head h of n positions: the numbers of all heads, and the rows of this one
-pub record RowsFit (s : Shape) (h n numbers cells scales : ℕ) : Type 0 where
+pub record HeadRows (s : Shape) (h n numbers cells scales : ℕ) : Type 0 where
   pub in-limits : limits s ≡ true
   pub head : h < s .heads
   pub span : n ≤ s .capacity

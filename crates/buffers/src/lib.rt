@@ -17,7 +17,7 @@ ghost use Rattle.shapes.specs.Shape.{bytesOf, wordsOf, width, within, exact};
 ghost use Rattle.rows.specs.Row.{rowCells, rowScales};
 ghost use Rattle.buffers.specs.Write.{writtenSide, zeros};
 ghost use Rattle.buffers.specs.Calls.{headNumbers, cellRow, scaleRow, appendRowsOf, removeRowsOf};
-ghost use Rattle.buffers.specs.Fits.{InLayer, RowsFit};
+ghost use Rattle.buffers.specs.Fits.{InLayer, HeadRows};
 
 // Zeroes both buffers.
 pub fn clear_all(cells: &mut [u8], scales: &mut [u32])
@@ -199,7 +199,7 @@ fn clear_side(
 
 // Head `h` of `n` positions. Each format is named, so that the back end makes a loop of each in which no format is tested.
 fn put_rows(shape: Shape, h: usize, n: usize, numbers: &[u32], cells: &mut [u8], scales: &mut [u32])
-    requires { ⌜ RowsFit shape h n (length (now numbers)) (length (now cells)) (length (now scales)) ⌝ }
+    requires { ⌜ HeadRows shape h n (length (now numbers)) (length (now cells)) (length (now scales)) ⌝ }
     ensures cells { λ _. ⌜ now (cells .exit) ≡ joined n (cellRow shape (now (numbers .entry)) h) ⌝ }
     ensures scales { λ _. ⌜ now (scales .exit) ≡ joined n (scaleRow shape (now (numbers .entry)) h) ⌝ }
 {
@@ -223,7 +223,7 @@ fn put_rows_in(
     cells: &mut [u8],
     scales: &mut [u32],
 )
-    requires { ⌜ (format ≡ shape .format) × RowsFit shape h n (length (now numbers)) (length (now cells)) (length (now scales)) ⌝ }
+    requires { ⌜ (format ≡ shape .format) × HeadRows shape h n (length (now numbers)) (length (now cells)) (length (now scales)) ⌝ }
     ensures cells { λ _. ⌜ now (cells .exit) ≡ joined n (λ i. rowCells format (headNumbers shape (now (numbers .entry)) h i)) ⌝ }
     ensures scales { λ _. ⌜ now (scales .exit) ≡ joined n (λ i. rowScales format (headNumbers shape (now (numbers .entry)) h i)) ⌝ }
 {

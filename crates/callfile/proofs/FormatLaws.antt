@@ -16,7 +16,7 @@ use Rattle.lists.proofs.Part.{part-length}
 use Rattle.lists.proofs.Tab.{tab-length}
 use Rattle.callfile.specs.declared.Entry.{Entry}
 use Rattle.callfile.specs.declared.Entry.the-variants.{Open, Append, Truncate, Advance, Report, End, Bad}
-use Rattle.callfile.specs.Format.{numberAt, words, lies, whole, openAt, appendAt, truncateAt, advanceAt, kindAt, marked, entryAt, sizeOf, placeAfter, wordsRead}
+use Rattle.callfile.specs.Format.{numberAt, words, lies, unlessCut, openAt, appendAt, truncateAt, advanceAt, kindAt, marked, entryAt, sizeOf, placeAfter, wordsRead}
 
 -- the number of two rows of bytes
 from-append : (a b : List ℕ) → fromLittle (a ++ b) ≡ fromLittle a + 256 ^ length a * fromLittle b
@@ -85,7 +85,7 @@ module _ (file : List ℕ) (at : ℕ) where
   Here = Sized (length file - at)
 
   -- a whole record of k bytes
-  whole-here : (k : ℕ) (e : Entry) → sizeOf e ≡ k → k ≤ 7 + 8 * 512 → Here (whole k file at e)
+  whole-here : (k : ℕ) (e : Entry) → sizeOf e ≡ k → k ≤ 7 + 8 * 512 → Here (unlessCut k file at e)
   whole-here k e s b =
       picked (lies k file at) (λ t. record { inside = omega (arith, leb-true); most = omega arith }) bad-sized
 

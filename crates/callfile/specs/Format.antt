@@ -22,13 +22,13 @@ abbrev pub lies : ℕ → List ℕ → ℕ → Bool
 lies k file at = leb (at + k) (length file)
 
 -- what stands there where all k bytes of its record do; else the record is cut
-abbrev pub whole : ℕ → List ℕ → ℕ → Entry → Entry
-whole k file at entry = cond (lies k file at) entry Bad
+abbrev pub unlessCut : ℕ → List ℕ → ℕ → Entry → Entry
+unlessCut k file at entry = cond (lies k file at) entry Bad
 
 -- each kind: its fields follow the mark and the kind byte
 unfoldable pub openAt : List ℕ → ℕ → Entry
 openAt file at =
-    whole 12 file at
+    unlessCut 12 file at
     (Open
     (record {
       format = numberAt 1 file (at + 3);
@@ -41,13 +41,13 @@ openAt file at =
 unfoldable pub appendAt : List ℕ → ℕ → Entry
 appendAt file at =
     let n = numberAt 2 file (at + 5) in
-    whole 7 file at (cond (leb n 512) (whole (7 + 8 * n) file at (Append (numberAt 2 file (at + 3)) n)) Bad)
+    unlessCut 7 file at (cond (leb n 512) (unlessCut (7 + 8 * n) file at (Append (numberAt 2 file (at + 3)) n)) Bad)
 
 unfoldable pub truncateAt : List ℕ → ℕ → Entry
-truncateAt file at = whole 7 file at (Truncate (numberAt 2 file (at + 3)) (numberAt 2 file (at + 5)))
+truncateAt file at = unlessCut 7 file at (Truncate (numberAt 2 file (at + 3)) (numberAt 2 file (at + 5)))
 
 unfoldable pub advanceAt : List ℕ → ℕ → Entry
-advanceAt file at = whole 7 file at (Advance (numberAt 4 file (at + 3)))
+advanceAt file at = unlessCut 7 file at (Advance (numberAt 4 file (at + 3)))
 
 unfoldable pub kindAt : ℕ → List ℕ → ℕ → Entry
 kindAt kind file at =
@@ -64,7 +64,7 @@ marked file at = eqb (getD file at 0) 75 && eqb (getD file (at + 1) 0) 86
 -- the end, or a mark, a kind byte and the fields of that kind
 unfoldable pub entryAt : List ℕ → ℕ → Entry
 entryAt file at =
-    cond (leb (length file) at) End (whole 3 file at (cond (marked file at) (kindAt (getD file (at + 2) 0) file at) Bad))
+    cond (leb (length file) at) End (unlessCut 3 file at (cond (marked file at) (kindAt (getD file (at + 2) 0) file at) Bad))
 
 -- the bytes of a record; none where no record stands
 abbrev pub sizeOf : Entry → ℕ

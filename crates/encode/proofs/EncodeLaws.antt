@@ -21,8 +21,8 @@ pub pack-all : (numbers bytes : List ℕ) (scale : Float) → length numbers ≡
 unfolding packInto holds
 pack-all numbers bytes scale n b = let h : length bytes ≤ 16 = omega arith in rw (n, b, drop-of-length-le bytes h) (append-nil _)
 
-pub empty : (l : List ℕ) → length l ≡ 0 → l ≡ []
-empty l e = drop-of-length-le l {i = 0} (omega arith)
+pub none-there : (l : List ℕ) → length l ≡ 0 → l ≡ []
+none-there l e = drop-of-length-le l {i = 0} (omega arith)
 
 -- the first of an array's words, lent as `&words[0..n]`, are the run's n
 pub first-lent : (run y r : List ℕ) → y ≡ run → take (length run - 0) (y ++ r) ≡ run

@@ -12,7 +12,7 @@ use Rattle.lists.proofs.Tab.{tab-length, tab-same, tab-replicate}
 use Rattle.numbers.specs.Word.{word}
 use Rattle.numbers.specs.Code.{code4, read4}
 use Rattle.replies.proofs.Flags.{both}
-use Rattle.groups.specs.Group.{packed, half, unpacked, holds, byteAt, numberAt}
+use Rattle.groups.specs.Group.{packed, half, unpacked, holds, byteAt, groupNumber}
 
 pub enough : (numbers bytes : ℕ) → holds numbers bytes ≡ true → (32 ≤ numbers) × (16 ≤ bytes)
 unfolding holds
@@ -26,7 +26,7 @@ packed-length numbers scale = tab-length 16 (byteAt numbers scale)
 
 half-length : (k : ℕ) (bytes : List ℕ) (scale : Float) → length (half k bytes scale) ≡ 16
 unfolding half
-half-length k bytes scale = tab-length 16 (numberAt k bytes scale)
+half-length k bytes scale = tab-length 16 (groupNumber k bytes scale)
 
 pub unpacked-length : (bytes : List ℕ) (scale : Float) → length (unpacked bytes scale) ≡ 32
 unfolding unpacked
@@ -49,7 +49,7 @@ packed-alike numbers scale h =
 half-alike : (k : ℕ) (scale : Float) → 136 / 2 ^ k % 16 ≡ 8 → half k (replicate 16 136) scale ≡ replicate 16 (word (read4 8 scale))
 unfolding half
 half-alike k scale h =
-    tab-same 16 (numberAt k (replicate 16 136) scale) (λ (i : ℕ). word (read4 8 scale)) (λ i l. rw (getD-replicate {A = ℕ} 16 i 136 0 l, h)) ∙ sym (tab-replicate 16 (word (read4 8 scale)))
+    tab-same 16 (groupNumber k (replicate 16 136) scale) (λ (i : ℕ). word (read4 8 scale)) (λ i l. rw (getD-replicate {A = ℕ} 16 i 136 0 l, h)) ∙ sym (tab-replicate 16 (word (read4 8 scale)))
 
 pub unpacked-alike : (scale : Float) → unpacked (replicate 16 136) scale ≡ replicate 32 (word (read4 8 scale))
 unfolding unpacked

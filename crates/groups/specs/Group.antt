@@ -20,11 +20,11 @@ packed numbers scale = tab 16 (byteAt numbers scale)
 abbrev pub codeAt : ℕ → List ℕ → ℕ → ℕ
 codeAt k bytes i = getD bytes i 0 / 2 ^ k % 16
 
-abbrev pub numberAt : ℕ → List ℕ → Float → ℕ → ℕ
-numberAt k bytes scale i = word (read4 (codeAt k bytes i) scale)
+abbrev pub groupNumber : ℕ → List ℕ → Float → ℕ → ℕ
+groupNumber k bytes scale i = word (read4 (codeAt k bytes i) scale)
 
 unfoldable pub half : ℕ → List ℕ → Float → List ℕ
-half k bytes scale = tab 16 (numberAt k bytes scale)
+half k bytes scale = tab 16 (groupNumber k bytes scale)
 
 -- numbers 0 to 15 lie in the low halves, 16 to 31 in the high ones
 unfoldable pub unpacked : List ℕ → Float → List ℕ

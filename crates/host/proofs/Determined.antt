@@ -13,7 +13,7 @@ use Rattle.shapes.specs.Buffers.{Buffers}
 use Rattle.store.specs.declared.Record.{Record}
 use Rattle.store.specs.Calls.{Store, openOf, appendOf, truncateOf, advanceOf, cachedLenOf, memoryBytesOf, readOf}
 use Rattle.heads.specs.Calls.{headScoresOf, headSumsOf}
-use Rattle.host.specs.Words.{recordOf, need, needTold, seen, replied}
+use Rattle.host.specs.Words.{recordOf, need, needReplied, seen, replied}
 use Rattle.host.proofs.WordLaws.{same-words}
 
 -- one reply and one thing replied: a count, a row, scores, sums
@@ -58,8 +58,8 @@ one-seen o n n′ w w′ c c′ s s′ l l′ e e′ =
     )
 
 -- each call
-pub kv-need : (s : Shape) → OneNeed (needTold s)
-kv-need s = one-need (needTold s)
+pub kv-need : (s : Shape) → OneNeed (needReplied s)
+kv-need s = one-need (needReplied s)
 
 pub kv-open : (s : Shape) (b : Buffers) → OneSeen (openOf s b)
 kv-open s b = one-seen (openOf s b)

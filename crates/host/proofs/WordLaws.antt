@@ -17,14 +17,14 @@ use Rattle.shapes.specs.Buffers.{buffers}
 use Rattle.store.specs.Record.{seqLen}
 use Rattle.store.specs.Calls.{Store, store}
 use Rattle.store.specs.declared.Record.{Record}
-use Rattle.host.specs.Words.{recordOf, wordsOf, needTold, seen, replied}
+use Rattle.host.specs.Words.{recordOf, recordWords, needReplied, seen, replied}
 
 -- the words of a record, as a record
-pub record-words : (r : Record) → recordOf (wordsOf r) ≡ r
+pub record-words : (r : Record) → recordOf (recordWords r) ≡ r
 record-words r = refl
 
 -- the record of words, as words
-pub words-record : (w : List ℕ) → length w ≡ 134 → wordsOf (recordOf w) ≡ w
+pub words-record : (w : List ℕ) → length w ≡ 134 → recordWords (recordOf w) ≡ w
 words-record w e =
     rw (
       ← drop-cons w 5 0 (omega arith),
@@ -37,7 +37,7 @@ words-record w e =
 
 -- one record, one list of words
 pub same-words : (w w′ : List ℕ) → length w ≡ 134 → length w′ ≡ 134 → recordOf w ≡ recordOf w′ → w ≡ w′
-same-words w w′ e e′ q = sym (words-record w e) ∙ ap wordsOf q ∙ words-record w′ e′
+same-words w w′ e e′ q = sym (words-record w e) ∙ ap recordWords q ∙ words-record w′ e′
 
 -- what the store answers and leaves is what the host is replied, and sees where a record comes back as words
 pub as-told : {A : Type 0} {n m : ℕ} {x y : A} {o : Outcome A} → n ≡ m → x ≡ y → replied m y ≡ o → replied n x ≡ o
@@ -48,12 +48,12 @@ pub as-seen : {n m : ℕ} {w w′ cells scales : List ℕ} {o : Outcome Store} �
 as-seen {cells = cells} {scales = scales} p q e = as-told p (ap (λ (l : List ℕ). store (recordOf l) (buffers cells scales)) q) e
 
 -- what a shape inside the limits is replied, and one outside them
-pub need-inside : (s : Shape) {n : ℕ} {x : Need} → within s ≡ true → n ≡ 0 → x ≡ needOf s → replied n x ≡ needTold s
-unfolding needTold outcome lowest needOf
+pub need-inside : (s : Shape) {n : ℕ} {x : Need} → within s ≡ true → n ≡ 0 → x ≡ needOf s → replied n x ≡ needReplied s
+unfolding needReplied outcome lowest needOf
 need-inside s h e q = rw (e, q, h)
 
-pub need-outside : (s : Shape) {n : ℕ} {x : Need} → within s ≡ false → n ≡ 1 → x ≡ needOf s → replied n x ≡ needTold s
-unfolding needTold outcome lowest needOf
+pub need-outside : (s : Shape) {n : ℕ} {x : Need} → within s ≡ false → n ≡ 1 → x ≡ needOf s → replied n x ≡ needReplied s
+unfolding needReplied outcome lowest needOf
 need-outside s h e q = rw (e, q, h)
 
 -- the loops: i values copied into 128 zeros

@@ -23,8 +23,8 @@ recordOf w =
       «seq_len» = getD w 5 0;
     }
 
-abbrev pub wordsOf : Record → List ℕ
-wordsOf r =
+abbrev pub recordWords : Record → List ℕ
+recordWords r =
     r .shape .format ∷ r .shape .layers ∷ r .shape .heads ∷ headSize (r .shape) ∷ r .shape .capacity ∷ seqLen r ∷ r .lens
 
 -- a reply's number beside the words, the cells and the scale words that are left
@@ -35,8 +35,8 @@ abbrev pub need : ℕ → ℕ → Need
 need cells scales = record { cells = cells; scales = scales }
 
 -- what a shape needs, and whether it is inside the limits; nothing where it is not
-unfoldable pub needTold : Shape → Outcome Need
-needTold s = outcome ((1 when not (within s)) ∷ []) (need (cellTotal s) (scaleTotal s)) (need 0 0)
+unfoldable pub needReplied : Shape → Outcome Need
+needReplied s = outcome ((1 when not (within s)) ∷ []) (need (cellTotal s) (scaleTotal s)) (need 0 0)
 
 abbrev pub replied : {A : Type 0} → ℕ → A → Outcome A
 replied reply x = record { reply = reply; result = x }

@@ -19,7 +19,7 @@ ghost use Rattle.groups.specs.Group.{groupReply, packInto, unpackInto};
 ghost use Rattle.shapes.specs.Buffers.{buffers};
 ghost use Rattle.store.specs.Calls.{openOf, appendOf, truncateOf, advanceOf, cachedLenOf, memoryBytesOf, readOf};
 ghost use Rattle.heads.specs.Calls.{headScoresOf, headSumsOf};
-ghost use Rattle.host.specs.Words.{recordOf, shapeOf, need, needTold, seen, replied};
+ghost use Rattle.host.specs.Words.{recordOf, shapeOf, need, needReplied, seen, replied};
 
 // The scale of an INT8 head.
 #[no_mangle]
@@ -109,7 +109,7 @@ pub extern "C" fn kv_need(
     ensures { λ r.
         ⌜
         replied r (need (now (cells .exit)) (now (scales .exit)))
-        ≡ needTold (shapeOf format layers heads «head_size» capacity)
+        ≡ needReplied (shapeOf format layers heads «head_size» capacity)
         ⌝ }
 {
     let shape = Shape {

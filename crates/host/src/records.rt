@@ -2,7 +2,7 @@
 use shapes::Shape;
 use store::Record;
 ghost use mathlib.Core.Path.{_≡_};
-ghost use Rattle.host.specs.Words.{recordOf, wordsOf};
+ghost use Rattle.host.specs.Words.{recordOf, recordWords};
 
 pub(crate) fn record_of(w: [u32; 134]) -> Record
     ensures { λ r. ⌜ r ≡ recordOf w ⌝ }
@@ -27,7 +27,7 @@ pub(crate) fn record_of(w: [u32; 134]) -> Record
 }
 
 pub(crate) fn words_of(record: Record) -> [u32; 134]
-    ensures { λ r. ⌜ r ≡ wordsOf «record» ⌝ }
+    ensures { λ r. ⌜ r ≡ recordWords «record» ⌝ }
 {
     let mut w = [0; 134];
     w[0] = record.shape.format;

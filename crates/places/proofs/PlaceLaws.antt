@@ -14,6 +14,10 @@ use Rattle.shapes.specs.declared.Shape.{Shape}
 use Rattle.shapes.specs.Shape.{total}
 use Rattle.places.specs.Place.{blockAt, rowOf, place}
 
+-- the paper's own words for a place
+pub place-paper : (b : ℕ) (s : Shape) (l side h p : ℕ) → place b s l side h p ≡ ((2 * l + side) * s .heads + h) * s .capacity * b + p * b
+place-paper b s l side h p = add-mul (blockAt s l side h * s .capacity) p b
+
 -- a head's block that a shape has, and a position of it
 pub record Block (s : Shape) (l side h : ℕ) : Type 0 where
   pub layer-in : l < s .layers

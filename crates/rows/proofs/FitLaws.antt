@@ -52,8 +52,8 @@ facts-fit h =
     )
 
 -- the elements of m rows, where a row has r of them, are few
-pub rows-small : {m r b : ℕ} → m ≤ 4096 → b ≤ 1024 → r ≡ b → m * r ≤ 4194304
-rows-small h w e = rw e (mul-le-mul h w)
+pub rows-few : {m r b : ℕ} → m ≤ 4096 → b ≤ 1024 → r ≡ b → m * r ≤ 4194304
+rows-few h w e = rw e (mul-le-mul h w)
 
 -- one row
 abbrev pub RowFits : ℕ → ℕ → ℕ → ℕ → Type 0

@@ -34,40 +34,36 @@ module _ (s : Shape) (b : Buffers) (opened : openOf s b .reply ≡ 0) (calls : L
         → SameCache (after s b calls) (after s b′ calls′)
     same-survivors-same-cache calls′ same = same-rows (after-renders s b opened calls) (after-renders s b′ opened′ calls′) same
 
-    -- a store that never saw the withdrawn rows: whatever goes by what a store holds answers after an undo as it does there
-    abbrev pub fresh : Store
-    fresh = after s b′ (oneAppendEach s (surviving s b calls))
-
-    pub withdrawn-rows-never-seen : SameAnswers (after s b calls) fresh
+    -- after an undo whatever goes by what a store holds answers as in a store that never saw the withdrawn rows
+    pub withdrawn-rows-never-seen : SameAnswers (after s b calls) (after s b′ (oneAppendEach s (surviving s b calls)))
     withdrawn-rows-never-seen A answer = ap answer (undo-is-real s b b′ opened opened′ calls .0)
 
-    abbrev pub Alike : {A : Type 0} → (Store → A) → Type 0
-    Alike answer = answer (after s b calls) ≡ answer fresh
+-- two stores with the same cache: all lengths and both whole buffers, and each call that reads
+module _ (t u : Store) (e : SameCache t u) where
+  pub same-lengths : (l : ℕ) → lengthOf (t .rec) l ≡ lengthOf (u .rec) l
+  same-lengths l = ap (λ (x : Store). lengthOf (x .rec) l) e
 
-    -- so do all lengths and both whole buffers
-    pub same-lengths : (l : ℕ) → Alike (λ t. lengthOf (t .rec) l)
-    same-lengths l = withdrawn-rows-never-seen _ (λ t. lengthOf (t .rec) l)
+  pub same-buffers : t .memory ≡ u .memory
+  same-buffers = ap (λ (x : Store). x .memory) e
 
-    pub same-buffers : Alike (λ t. t .memory)
-    same-buffers = withdrawn-rows-never-seen _ (λ t. t .memory)
+  pub same-length : (l : ℕ) → cachedLenOf (t .rec) l ≡ cachedLenOf (u .rec) l
+  unfolding cachedLenOf goodLengths
+  same-length l = ap (λ (x : Store). cachedLenOf (x .rec) l) e
 
-    -- and so do the calls that read
-    pub same-length : (l : ℕ) → Alike (λ t. cachedLenOf (t .rec) l)
-    unfolding cachedLenOf goodLengths
-    same-length l = withdrawn-rows-never-seen _ (λ t. cachedLenOf (t .rec) l)
+  pub same-bytes : memoryBytesOf (t .rec) ≡ memoryBytesOf (u .rec)
+  unfolding memoryBytesOf goodLengths byteCount
+  same-bytes = ap (λ (x : Store). memoryBytesOf (x .rec)) e
 
-    pub same-bytes : Alike (λ t. memoryBytesOf (t .rec))
-    unfolding memoryBytesOf goodLengths byteCount
-    same-bytes = withdrawn-rows-never-seen _ (λ t. memoryBytesOf (t .rec))
+  pub same-row : (l side h p : ℕ) (out : List ℕ) → readOf (t .rec) (t .memory) l side h p out ≡ readOf (u .rec) (u .memory) l side h p out
+  unfolding readOf goodLengths
+  same-row l side h p out = ap (λ (x : Store). readOf (x .rec) (x .memory) l side h p out) e
 
-    pub same-row : (l side h p : ℕ) (out : List ℕ) → Alike (λ t. readOf (t .rec) (t .memory) l side h p out)
-    unfolding readOf goodLengths
-    same-row l side h p out = withdrawn-rows-never-seen _ (λ t. readOf (t .rec) (t .memory) l side h p out)
+  pub same-scores : (l h : ℕ) (query : List Float) (x : Float) (out : List ℕ)
+      → headScoresOf (t .rec) (t .memory) l h query x out ≡ headScoresOf (u .rec) (u .memory) l h query x out
+  unfolding headScoresOf goodLengths
+  same-scores l h query x out = ap (λ (v : Store). headScoresOf (v .rec) (v .memory) l h query x out) e
 
-    pub same-scores : (l h : ℕ) (query : List Float) (x : Float) (out : List ℕ) → Alike (λ t. headScoresOf (t .rec) (t .memory) l h query x out)
-    unfolding headScoresOf goodLengths
-    same-scores l h query x out = withdrawn-rows-never-seen _ (λ t. headScoresOf (t .rec) (t .memory) l h query x out)
-
-    pub same-sums : (l h : ℕ) (weights : List Float) (out : List ℕ) → Alike (λ t. headSumsOf (t .rec) (t .memory) l h weights out)
-    unfolding headSumsOf goodLengths
-    same-sums l h weights out = withdrawn-rows-never-seen _ (λ t. headSumsOf (t .rec) (t .memory) l h weights out)
+  pub same-sums : (l h : ℕ) (weights : List Float) (out : List ℕ)
+      → headSumsOf (t .rec) (t .memory) l h weights out ≡ headSumsOf (u .rec) (u .memory) l h weights out
+  unfolding headSumsOf goodLengths
+  same-sums l h weights out = ap (λ (v : Store). headSumsOf (v .rec) (v .memory) l h weights out) e

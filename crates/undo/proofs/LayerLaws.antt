@@ -19,16 +19,16 @@ use Rattle.buffers.proofs.WriteLaws.{Written, written-size}
 use Rattle.buffers.proofs.RunLaws.{whole-rows, cell-layer, scale-layer}
 use Rattle.store.specs.Record.{mostOf}
 use Rattle.undo.specs.Survivors.{Rows, noRows, rowsOf}
-use Rattle.undo.proofs.RowLaws.{Holds, holds-none, holds-still, holds-added}
-use Rattle.undo.proofs.NumberLaws.{Whole, whole-none, whole-joined, whole-given, encoded, given, old-rows, new-rows}
+use Rattle.undo.proofs.RowLaws.{HoldsRows, holds-none, holds-still, holds-added}
+use Rattle.undo.proofs.NumberLaws.{AllWide, whole-none, whole-joined, whole-given, encoded, given, old-rows, new-rows}
 
 -- layer l of both buffers has n positions, which are the rows r, and nothing else
 pub record HasRows (s : Shape) (l n : ℕ) (r : Rows) (b : Buffers) : Type 0 where
   pub count : length r ≡ n
-  pub whole : Whole s r
+  pub whole : AllWide s r
   pub span : n ≤ mostOf s l
-  pub cells-held : Holds (bytesOf s) s l n (encoded (rowCells (s .format)) s r) (b .cells)
-  pub scales-held : Holds (wordsOf s) s l n (encoded (rowScales (s .format)) s r) (b .scales)
+  pub cells-held : HoldsRows (bytesOf s) s l n (encoded (rowCells (s .format)) s r) (b .cells)
+  pub scales-held : HoldsRows (wordsOf s) s l n (encoded (rowScales (s .format)) s r) (b .scales)
 
 -- no rows in zeros
 pub has-none : (s : Shape) (l : ℕ) → HasRows s l 0 noRows (buffers (replicate (cellTotal s) 0) (replicate (scaleTotal s) 0))
@@ -56,8 +56,8 @@ has-still b d x c w =
 
 -- rows written at the end of n rows, in a buffer of either kind
 rows-added : (enc : List ℕ → List ℕ) {a : ℕ} {s : Shape} {l n : ℕ} {r : Rows} {b : Buffers} {buf : List ℕ} (keys values : List ℕ)
-    → let i = positions s (length keys) in HasRows s l n r b → Holds a s l n (encoded enc s r) buf → Written a s l n i (given enc s keys values) buf
-    → Holds a s l (n + i) (encoded enc s (r ++ rowsOf s keys values)) (written a s l n i (given enc s keys values) buf)
+    → let i = positions s (length keys) in HasRows s l n r b → HoldsRows a s l n (encoded enc s r) buf → Written a s l n i (given enc s keys values) buf
+    → HoldsRows a s l (n + i) (encoded enc s (r ++ rowsOf s keys values)) (written a s l n i (given enc s keys values) buf)
 rows-added enc {s = s} {n = n} {r = r} keys values x len w =
     holds-added len w (old-rows enc s r n (x .count) keys values) (new-rows enc s r n (x .count) keys values)
 

@@ -1,6 +1,6 @@
 -- Rows as a list of positions: appended to others, cut to the first, joined again, and what stands for a head at each of them.
 -- Each holds position by position, by the laws of lists and parts.
-use mathlib.Core.Path.{_≡_, refl, sym}
+use mathlib.Core.Path.{_≡_, refl, sym, _∙_}
 use mathlib.Core.Bool.{Bool, true, false, cond}
 use mathlib.Core.List.{List, [], _++_}
 use Prim.Native.Nat.{ℕ, _+_, _-_, _*_, _<_}
@@ -10,40 +10,39 @@ use native.Mathlib.Decide.{decLt}
 use lib.Dec.{eqb}
 use lib.ListN.{length, take, length-append, length-take, List·getD-append}
 use lib.Seq.{getD-take, getD-append-add}
-use Rattle.lists.specs.Chunks.{part}
-use Rattle.lists.proofs.Part.{room, part-length, part-part}
+use Rattle.lists.specs.Chunks.{part, joined}
+use Rattle.lists.proofs.Part.{room, part-length, part-part, chunks-ext}
 use Rattle.lists.proofs.Tab.{tab-length, tab-getD, tab-of}
 use Rattle.lists.proofs.Joined.{joined-length, joined-part}
 use Rattle.shapes.specs.declared.Shape.{Shape}
-use Rattle.shapes.specs.Shape.{headSize, width}
+use Rattle.shapes.specs.Shape.{headSize, width, positions}
 use Rattle.buffers.specs.Calls.{headNumbers, sideOf}
-use Rattle.shapes.specs.Shape.{positions}
 use Rattle.undo.specs.Survivors.{Position, Rows, position, noRows, rowsOf, positionAt, keysOf, valuesOf}
 
 -- a position has the numbers of all heads, and so has each of some rows
 abbrev Wide : Shape → Position → Type 0
 Wide s x = (length (x .keys) ≡ width s) × (length (x .values) ≡ width s)
 
-pub record Whole (s : Shape) (r : Rows) : Type 0 where
+pub record AllWide (s : Shape) (r : Rows) : Type 0 where
   pub wide : (p : ℕ) → p < length r → Wide s (positionAt r p)
 
-pub whole-none : (s : Shape) → Whole s noRows
+pub whole-none : (s : Shape) → AllWide s noRows
 whole-none s = record { wide = λ p w. absurd (omega arith) }
 
-module _ {s : Shape} {r : Rows} (x : Whole s r) where
-  pub whole-first : (n : ℕ) → Whole s (take n r)
+module _ {s : Shape} {r : Rows} (x : AllWide s r) where
+  pub whole-first : (n : ℕ) → AllWide s (take n r)
   whole-first n =
       record {
         wide = λ p w. let v : p < n = omega (arith, length-take n r) in rw (getD-take n r p (position [] []) v) (x .wide p (omega (arith, length-take n r)));
       }
 
-  wide-at : {r′ : Rows} → Whole s r′ → (p : ℕ) → p < length (r ++ r′) → Dec (p < length r) → Wide s (positionAt (r ++ r′) p)
+  wide-at : {r′ : Rows} → AllWide s r′ → (p : ℕ) → p < length (r ++ r′) → Dec (p < length r) → Wide s (positionAt (r ++ r′) p)
   wide-at {r′} y p w (yes u) = rw (List·getD-append r r′ (position [] []) p u) (x .wide p u)
   wide-at {r′} y p w (no u) =
       let e : p ≡ length r + (p - length r) = omega arith in
       rw (e, getD-append-add r r′ (p - length r) (position [] [])) (y .wide (p - length r) (omega (arith, length-append r r′)))
 
-  pub whole-joined : {r′ : Rows} → Whole s r′ → Whole s (r ++ r′)
+  pub whole-joined : {r′ : Rows} → AllWide s r′ → AllWide s (r ++ r′)
   whole-joined y = record { wide = λ p w. wide-at y p w (decLt p (length r)) }
 
   -- joined, they have as many numbers, and cut again they are as they were
@@ -67,7 +66,7 @@ module _ {s : Shape} {r : Rows} (x : Whole s r) where
 
 -- appended keys and values
 module _ (s : Shape) (keys values : List ℕ) where
-  pub whole-given : length keys ≡ positions s (length keys) * width s → length values ≡ positions s (length keys) * width s → Whole s (rowsOf s keys values)
+  pub whole-given : length keys ≡ positions s (length keys) * width s → length values ≡ positions s (length keys) * width s → AllWide s (rowsOf s keys values)
   whole-given k v =
       record {
         wide = λ p w.
@@ -75,6 +74,25 @@ module _ (s : Shape) (keys values : List ℕ) where
             rw (tab-getD _ _ p (position [] []) u)
             (part-length (p * width s) (width s) keys (omega (arith, room (width s) u)), part-length (p * width s) (width s) values (omega (arith, room (width s) u)));
       }
+
+  -- joined again, they are the keys and the values that were appended
+  module _ (k : length keys ≡ positions s (length keys) * width s) (v : length values ≡ positions s (length keys) * width s) where
+    joined-again : (numbers : List ℕ) (side : Position → List ℕ) → length numbers ≡ positions s (length keys) * width s
+        → ((p : ℕ) → p < positions s (length keys) → side (positionAt (rowsOf s keys values) p) ≡ part (p * width s) (width s) numbers)
+        → joined (length (rowsOf s keys values)) (λ p. side (positionAt (rowsOf s keys values) p)) ≡ numbers
+    joined-again numbers side e same =
+        let n : length (rowsOf s keys values) ≡ positions s (length keys) = tab-length _ _ in
+        let sized : (p : ℕ) → p < positions s (length keys) → length (side (positionAt (rowsOf s keys values) p)) ≡ width s =
+        λ p w. rw (same p w) (part-length (p * width s) (width s) numbers (omega (arith, room (width s) w))) in
+        rw n
+        (chunks-ext (width s) (positions s (length keys)) _ numbers (joined-length (width s) _ _ sized) e
+        (λ p w. joined-part (width s) (positions s (length keys)) p _ sized w ∙ same p w))
+
+    pub keys-again : keysOf (rowsOf s keys values) ≡ keys
+    keys-again = joined-again keys (λ x. x .keys) k (λ p w. rw (tab-getD _ _ p (position [] []) w))
+
+    pub values-again : valuesOf (rowsOf s keys values) ≡ values
+    values-again = joined-again values (λ x. x .values) v (λ p w. rw (tab-getD _ _ p (position [] []) w))
 
 -- a part of either side is of both
 either-part : (t : Bool) (a k : ℕ) (keys values : List ℕ) → cond t (part a k keys) (part a k values) ≡ part a k (cond t keys values)

@@ -20,17 +20,17 @@ use Rattle.buffers.specs.Write.{written, zeros}
 use Rattle.buffers.proofs.WriteLaws.{Written, written-there, written-elsewhere}
 
 -- layer l has n rows, and zeros after them
-pub record Holds (b : ℕ) (s : Shape) (l n : ℕ) (rows : ℕ → ℕ → ℕ → List ℕ) (buf : List ℕ) : Type 0 where
+pub record HoldsRows (b : ℕ) (s : Shape) (l n : ℕ) (rows : ℕ → ℕ → ℕ → List ℕ) (buf : List ℕ) : Type 0 where
   pub row : (side h p : ℕ) → Place s l side h p → part (place b s l side h p) b buf ≡ cond (ltb p n) (rows side h p) (replicate b 0)
 
 -- no rows in zeros
-pub holds-none : (b : ℕ) (s : Shape) (l : ℕ) (rows : ℕ → ℕ → ℕ → List ℕ) → Holds b s l 0 rows (replicate (total b s) 0)
+pub holds-none : (b : ℕ) (s : Shape) (l : ℕ) (rows : ℕ → ℕ → ℕ → List ℕ) → HoldsRows b s l 0 rows (replicate (total b s) 0)
 holds-none b s l rows =
     record { row = λ side h p k. rw (le-ltb p 0 (omega arith)) (part-replicate (place b s l side h p) b (total b s) 0 (row-in b k)) }
 
-module _ {b : ℕ} {s : Shape} {l n : ℕ} {rows : ℕ → ℕ → ℕ → List ℕ} {buf : List ℕ} (len : Holds b s l n rows buf) where
+module _ {b : ℕ} {s : Shape} {l n : ℕ} {rows : ℕ → ℕ → ℕ → List ℕ} {buf : List ℕ} (len : HoldsRows b s l n rows buf) where
   -- after a write to another layer
-  pub holds-still : {m q k : ℕ} {new : ℕ → ℕ → ℕ → List ℕ} → l ≢ m → Written b s m q k new buf → Holds b s l n rows (written b s m q k new buf)
+  pub holds-still : {m q k : ℕ} {new : ℕ → ℕ → ℕ → List ℕ} → l ≢ m → Written b s m q k new buf → HoldsRows b s l n rows (written b s m q k new buf)
   holds-still d w = record { row = λ side h p u. written-elsewhere b u w (inl d) ∙ len .row side h p u }
 
   -- after k rows written at their end: all is the old rows and then the new ones
@@ -51,7 +51,7 @@ module _ {b : ℕ} {s : Shape} {l n : ℕ} {rows : ℕ → ℕ → ℕ → List 
         ∙ len .row side h p u
         ∙ rw (le-ltb p n (omega arith), le-ltb p (n + k) (omega arith))
 
-    pub holds-added : Holds b s l (n + k) all (written b s l n k new buf)
+    pub holds-added : HoldsRows b s l (n + k) all (written b s l n k new buf)
     holds-added = record { row = λ side h p u. added-at side h p u (decLt p n) (decLt p (n + k)) }
 
   -- after zeros written from t to their end: first is the first t rows
@@ -69,5 +69,5 @@ module _ {b : ℕ} {s : Shape} {l n : ℕ} {rows : ℕ → ℕ → ℕ → List 
         ∙ len .row side h p u
         ∙ rw (le-ltb p n (omega arith), le-ltb p t (omega arith))
 
-    pub holds-cut : Holds b s l t first (written b s l t (n - t) (zeros b) buf)
+    pub holds-cut : HoldsRows b s l t first (written b s l t (n - t) (zeros b) buf)
     holds-cut = record { row = λ side h p u. cut-at side h p u (decLt p t) (decLt p n) }

@@ -14,7 +14,7 @@ use Rattle.shapes.specs.Buffers.{Buffers}
 use Rattle.store.specs.declared.Record.{Record}
 use Rattle.store.specs.Record.{seqLen, lengthOf, withSeqLen}
 use Rattle.store.specs.Calls.{Store, store, storeRefusals, recordRefusals, appendRefusals, removeRefusals, appendOf, truncateOf, advanceOf}
-use Rattle.undo.specs.Sequence.{Call, append, truncate, advance, reads, does, run, counted, accepted}
+use Rattle.undo.specs.Sequence.{Call, append, truncate, advance, reads, does, run, ifAccepted, accepted}
 use Rattle.undo.specs.Survivors.{Rows, rowsAfter, rowsAfterAll}
 use Rattle.undo.proofs.StoreLaws.{Renders}
 use Rattle.undo.proofs.ChangeLaws.{append-done, truncate-done, advance-done}
@@ -78,7 +78,7 @@ step {s} {t} {of} c x = subst (λ (s : Shape). Renders s t of → Steps s t of c
 
 -- a run of calls
 kept-next : (s : Shape) (l : ℕ) (r : Rows) (c : Call) (others : List Call) (flag : Bool)
-    → rowsAfterAll s l (cond flag (rowsAfter s l r c) r) others ≡ rowsAfterAll s l r (counted flag c others)
+    → rowsAfterAll s l (cond flag (rowsAfter s l r c) r) others ≡ rowsAfterAll s l r (ifAccepted flag c others)
 unfolding rowsAfterAll
 kept-next s l r c others true = refl
 kept-next s l r c others false = refl

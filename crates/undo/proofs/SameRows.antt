@@ -17,7 +17,7 @@ use Rattle.store.specs.Calls.{Store, store}
 use Rattle.store.proofs.LengthLaws.{same-record}
 use Rattle.undo.specs.Survivors.{Rows}
 use Rattle.undo.specs.Undo.{SameCache}
-use Rattle.undo.proofs.RowLaws.{Holds}
+use Rattle.undo.proofs.RowLaws.{HoldsRows}
 use Rattle.undo.proofs.NumberLaws.{encoded}
 use Rattle.undo.proofs.StoreLaws.{Renders}
 
@@ -36,8 +36,8 @@ module _ {s : Shape} {t u : Store} {of of′ : ℕ → Rows} (x : Renders s t of
 
   -- a buffer of either kind
   same-buffer : (enc : List ℕ → List ℕ) (a : ℕ) (buf buf′ : List ℕ) → length buf ≡ total a s → length buf′ ≡ total a s
-      → ((l : ℕ) → Holds a s l (lengthOf (t .rec) l) (encoded enc s (of l)) buf)
-      → ((l : ℕ) → Holds a s l (lengthOf (u .rec) l) (encoded enc s (of′ l)) buf′) → buf ≡ buf′
+      → ((l : ℕ) → HoldsRows a s l (lengthOf (t .rec) l) (encoded enc s (of l)) buf)
+      → ((l : ℕ) → HoldsRows a s l (lengthOf (u .rec) l) (encoded enc s (of′ l)) buf′) → buf ≡ buf′
   same-buffer enc a buf buf′ w w′ len len′ =
       places-same a s buf buf′ w w′
       (λ l side h p k. len l .row side h p k ∙ rw (same-length l, same l (k .layer-in)) (sym (len′ l .row side h p k)))

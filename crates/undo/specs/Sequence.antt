@@ -33,9 +33,9 @@ run [] t = t
 run (c ∷ calls) t = run calls (does c t .result)
 
 -- a call counts where it was done
-abbrev pub counted : Bool → Call → List Call → List Call
-counted done c others = cond done (c ∷ others) others
+abbrev pub ifAccepted : Bool → Call → List Call → List Call
+ifAccepted done c others = cond done (c ∷ others) others
 
 unfoldable pub accepted : List Call → Store → List Call
 accepted [] t = []
-accepted (c ∷ calls) t = counted (eqb (does c t .reply) 0) c (accepted calls (does c t .result))
+accepted (c ∷ calls) t = ifAccepted (eqb (does c t .reply) 0) c (accepted calls (does c t .result))

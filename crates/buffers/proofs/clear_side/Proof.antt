@@ -6,7 +6,7 @@ use borrow.Author.Needs.{needs}
 use lib.ListN.{length, length-replicate}
 use Rattle.shapes.specs.Shape.{bytesOf, wordsOf}
 use Rattle.buffers.specs.Write.{zeros}
-use Rattle.buffers.proofs.LoopLaws.{Heads, BlockIn, cells-small, words-small, block-in, no-heads, heads-done, head-turn, zeros-lent}
+use Rattle.buffers.proofs.LoopLaws.{Heads, HeadIn, cells-small, words-small, block-in, no-heads, heads-done, head-turn, zeros-lent}
 use Rattle.buffers.proofs.clear_side.Statement.{statement}
 use Rattle.buffers.proofs.clear_side.Tie as tie
 
@@ -26,7 +26,7 @@ start c = c .before .before .before .before .before .before .before .before
 block : (c : tie.Then1 Inv-loop μ-loop)
     → let l = c .before .before in
     let a = start l .args in
-    BlockIn (a .shape) (a .layer) (a .side) (l .loop .h) (a .p) (a .n) (l .before .before .before .cell-bytes .result) (l .before .scale-words .result)
+    HeadIn (a .shape) (a .layer) (a .side) (l .loop .h) (a .p) (a .n) (l .before .before .before .cell-bytes .result) (l .before .scale-words .result)
     (l .before .before .before .before .before .span-of .result) (length (l .loop .cells)) (length (l .loop .scales))
 block c =
     let l = c .before .before in

@@ -9,7 +9,7 @@ use Rattle.lists.specs.Chunks.{part, each}
 use Rattle.lists.proofs.Loop.{Passed}
 use Rattle.shapes.proofs.ShapeLaws.{width-in}
 use Rattle.rows.specs.Row.{rowCells, rowScales}
-use Rattle.buffers.proofs.HeadLaws.{Rows, RowIn, row-in, row-turn, rows-done}
+use Rattle.buffers.proofs.HeadLaws.{RowsPassed, RowIn, row-there, row-turn, rows-done}
 use Rattle.buffers.proofs.put_rows_in.Statement.{statement}
 use Rattle.buffers.proofs.put_rows_in.Tie as tie
 
@@ -24,7 +24,7 @@ abbrev μ-loop : tie.MeasureT-loop
 -- what the loop knows, and where a turn's row lies
 rows-of : (c : tie.At-loop Inv-loop μ-loop)
     → let a = c .before .before .before .before .before .before .before .before .args in
-    Rows (a .shape) (a .format) (a .h) (a .n) (c .before .before .before .cell-bytes .result) (c .before .before .scale-words .result) (a .numbers .now) (a .cells .now) (a .scales .now)
+    RowsPassed (a .shape) (a .format) (a .h) (a .n) (c .before .before .before .cell-bytes .result) (c .before .before .scale-words .result) (a .numbers .now) (a .cells .now) (a .scales .now)
 rows-of c =
     let a = c .before .before .before .before .before .before .before .before .pre in
     record { named = a .0; fits = a .1; cell-row = c .before .before .before .cell-bytes .ensures; scale-row = c .before .before .scale-words .ensures }
@@ -34,7 +34,7 @@ row : (c : tie.In-loop Inv-loop μ-loop)
     let a = l .before .before .before .before .before .before .before .before .args in
     RowIn (a .shape) (a .h) (l .before .before .before .cell-bytes .result) (l .before .before .scale-words .result) (l .loop .i) (length (a .numbers .now))
     (length (a .cells .now)) (length (a .scales .now))
-row c = row-in (rows-of (c .before)) (omega arith)
+row c = row-there (rows-of (c .before)) (omega arith)
 
 mul-width : tie.Need-mul-width Inv-loop μ-loop
 mul-width c = let a = c .before .before .before .before .before .before .before in omega (arith, width-in (a .args .shape) (a .pre .1 .in-limits))

@@ -9,7 +9,7 @@ use Rattle.lists.proofs.Part.{lent-count}
 use Rattle.shapes.specs.Shape.{bytesOf, wordsOf}
 use Rattle.buffers.specs.Calls.{cellRow, scaleRow}
 use Rattle.buffers.proofs.RunLaws.{cell-rows, scale-rows}
-use Rattle.buffers.proofs.LoopLaws.{Heads, BlockIn, cells-small, words-small, block-in, no-heads, heads-done, head-turn}
+use Rattle.buffers.proofs.LoopLaws.{Heads, HeadIn, cells-small, words-small, block-in, no-heads, heads-done, head-turn}
 use Rattle.buffers.proofs.put_side.Statement.{statement}
 use Rattle.buffers.proofs.put_side.Tie as tie
 
@@ -29,7 +29,7 @@ start c = c .before .before .before .before .before .before .before .before .bef
 block : (c : tie.Then1 Inv-loop μ-loop)
     → let l = c .before .before in
     let a = start l .args in
-    BlockIn (a .shape) (a .layer) (a .side) (l .loop .h) (a .p) (a .n) (l .before .before .before .cell-bytes .result) (l .before .scale-words .result)
+    HeadIn (a .shape) (a .layer) (a .side) (l .loop .h) (a .p) (a .n) (l .before .before .before .cell-bytes .result) (l .before .scale-words .result)
     (l .before .before .before .before .before .span-of .result) (length (l .loop .cells)) (length (l .loop .scales))
 block c =
     let l = c .before .before in

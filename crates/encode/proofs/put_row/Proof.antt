@@ -15,7 +15,7 @@ use Rattle.replies.specs.Tried.{tells}
 use Rattle.encode.specs.Encode.{putRowOf}
 use Rattle.replies.proofs.Tried.{tried-done}
 use Rattle.rows.proofs.FitLaws.{RowFits, fits-facts, f32-fits, bf16-fits, int8-fits, int4-fits}
-use Rattle.encode.proofs.EncodeLaws.{empty}
+use Rattle.encode.proofs.EncodeLaws.{none-there}
 use Rattle.encode.proofs.put_row.Statement.{statement}
 use Rattle.encode.proofs.put_row.Tie as tie
 
@@ -55,14 +55,14 @@ unfolding rowCells rowScales codings
 returns-2 c =
     let k = c .before .before .before .before in
     let e = k .match .keys1 in
-    done (k .before) (rw e (c .before .before .put-f32 .ensures)) (rw e (empty _ (f32-fits (rw e at (fits (k .before))) .1)))
+    done (k .before) (rw e (c .before .before .put-f32 .ensures)) (rw e (none-there _ (f32-fits (rw e at (fits (k .before))) .1)))
 
 returns-3 : tie.Need-returns-3
 unfolding rowCells rowScales codings
 returns-3 c =
     let k = c .before .before .before .before in
     let e = k .match .keys2 in
-    done (k .before) (rw e (c .before .before .put-bf16 .ensures)) (rw e (empty _ (bf16-fits (rw e at (fits (k .before))) .1)))
+    done (k .before) (rw e (c .before .before .put-bf16 .ensures)) (rw e (none-there _ (bf16-fits (rw e at (fits (k .before))) .1)))
 
 returns-4 : tie.Need-returns-4
 unfolding rowCells rowScales codings

@@ -7,12 +7,12 @@ use native.Mathlib.Omega.{arith}
 use lib.ListN.{length, drop}
 use Rattle.lists.specs.Chunks.{tab}
 use Rattle.lists.proofs.Tab.{tab-set, tab-done}
-use Rattle.groups.specs.Group.{numberAt, half}
+use Rattle.groups.specs.Group.{groupNumber, half}
 use Rattle.groups.proofs.unpack_half.Statement.{statement}
 use Rattle.groups.proofs.unpack_half.Tie as tie
 
 abbrev Inv-loop : tie.InvT-loop
-Inv-loop packed from scale dst₀ i₀ dst i = (i ≤ 16) × (dst ≡ tab i (numberAt from packed scale) ++ drop i dst₀) × (length dst ≡ length dst₀)
+Inv-loop packed from scale dst₀ i₀ dst i = (i ≤ 16) × (dst ≡ tab i (groupNumber from packed scale) ++ drop i dst₀) × (length dst ≡ length dst₀)
 
 abbrev μ-loop : tie.MeasureT-loop
 μ-loop packed from scale dst₀ i₀ dst i = 16 - i

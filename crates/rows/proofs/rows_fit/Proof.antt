@@ -9,7 +9,7 @@ use borrow.Author.Tests.{leb-true, not-true, not-false}
 use Rattle.replies.proofs.Flags.{both}
 use Rattle.shapes.proofs.ShapeLaws.{row-most}
 use Rattle.rows.specs.Fit.{rowsFit}
-use Rattle.rows.proofs.FitLaws.{rows-small}
+use Rattle.rows.proofs.FitLaws.{rows-few}
 use Rattle.rows.proofs.rows_fit.Statement.{statement}
 use Rattle.rows.proofs.rows_fit.Tie as tie
 
@@ -28,13 +28,13 @@ cast-cell-bytes : tie.Need-cast-cell-bytes
 cast-cell-bytes c = omega (arith, few (c .before .before))
 
 mul-result : tie.Need-mul-result
-mul-result c = let k = few (c .before .before .before) in omega (arith, rows-small (k .1) (row-most _ _ (k .0) .0) (c .cell-bytes .ensures))
+mul-result c = let k = few (c .before .before .before) in omega (arith, rows-few (k .1) (row-most _ _ (k .0) .0) (c .cell-bytes .ensures))
 
 cast-scale-words : tie.Need-cast-scale-words
 cast-scale-words c = omega (arith, few (c .before .before .before))
 
 mul-result-2 : tie.Need-mul-result-2
-mul-result-2 c = let k = few (c .before .before .before .before) in omega (arith, rows-small (k .1) (row-most _ _ (k .0) .1) (c .scale-words .ensures))
+mul-result-2 c = let k = few (c .before .before .before .before) in omega (arith, rows-few (k .1) (row-most _ _ (k .0) .1) (c .scale-words .ensures))
 
 returns-2 : tie.Need-returns-2
 unfolding rowsFit
