@@ -1,2 +1,2 @@
 pub mod Determined
-pub mod LendingLaws
+pub mod ArenaLaws

@@ -1,4 +1,4 @@
-// Blocks: the first positions of one head's block, what their scores and sums are, and which blocks have some.
+// Attention: what the scores and sums of the first positions of a head's block are, and which blocks have some.
 use rows::rows_fit;
 ghost use mathlib.Core.Path.{_≡_};
 ghost use Rattle.attention.specs.Order.{hasScores};

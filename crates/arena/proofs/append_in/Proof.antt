@@ -2,7 +2,7 @@
 use Rattle.shapes.specs.Buffers.{buffers}
 use Rattle.store.specs.Calls.{appendOf}
 use Rattle.arena.specs.Calls.{appendIn}
-use Rattle.arena.proofs.LendingLaws.{given-back}
+use Rattle.arena.proofs.ArenaLaws.{given-back}
 use borrow.Author.Needs.{needs}
 use Rattle.arena.proofs.append_in.Statement.{statement}
 use Rattle.arena.proofs.append_in.Tie as tie

@@ -1,7 +1,7 @@
 -- The store is made in what the shape is lent, and that is given back; refused, it comes back as it went.
 use mathlib.Core.Path.{sym, _∙_}
 use Rattle.shapes.specs.Buffers.{buffers}
-use Rattle.arena.proofs.LendingLaws.{open-done, open-refused}
+use Rattle.arena.proofs.ArenaLaws.{open-done, open-refused}
 use borrow.Author.Needs.{needs}
 use Rattle.arena.proofs.open_in.Statement.{statement}
 use Rattle.arena.proofs.open_in.Tie as tie

@@ -2,7 +2,7 @@
 use Rattle.shapes.specs.Buffers.{buffers}
 use Rattle.store.specs.Calls.{truncateOf}
 use Rattle.arena.specs.Calls.{truncateIn}
-use Rattle.arena.proofs.LendingLaws.{given-back}
+use Rattle.arena.proofs.ArenaLaws.{given-back}
 use borrow.Author.Needs.{needs}
 use Rattle.arena.proofs.truncate_in.Statement.{statement}
 use Rattle.arena.proofs.truncate_in.Tie as tie
