@@ -34,7 +34,7 @@ fn answered(run: &[u32]) -> String {
 
 /// The INT8 scale of a run, its codes, and what they read as.
 fn int8_line(run: &[u32]) -> String {
-    let numbers = words::numbers(run);
+    let numbers = words::measured(run);
     let scale = rust::compute_int8_scale(&numbers);
     let code = |number: &f32| rust::quantize_i8(*number, scale) as u8;
     let codes: Vec<u8> = numbers.iter().map(code).collect();
@@ -52,7 +52,7 @@ fn int4_line(run: &[u32]) -> String {
     if run.len() < GROUP {
         return "int4 no 7\n".to_string();
     }
-    let group = words::numbers(&run[..GROUP]);
+    let group = words::measured(&run[..GROUP]);
     let scale = rust::compute_int4_scale(&group);
     let mut bytes = [0; GROUP / 2];
     rust::pack_i4_group(&group, scale, &mut bytes);

@@ -1,6 +1,6 @@
 //! What every call has to answer and to leave: replies from the paper's table, the rest from the lifted store.
 use crate::calls::{Answer, Call, Change, Holdings, Told};
-use crate::record::{Lent, Record, Shape, SEQ_LEN};
+use crate::record::{Lent, Record, Shape, SEQ_LEN, INT4, INT8};
 use crate::replies::{self, Head, Place};
 use crate::rows::{empty_store, row_of, store_in, Picture, Room};
 use crate::rust_store::KvStore;
@@ -85,7 +85,11 @@ impl Wanted {
             let layer = layer as usize;
             let mut store = self.take_store();
             let before = store.cached_len(layer);
-            store.append(layer, &words::numbers(keys), &words::numbers(values));
+            let numbers = match record.shape().format {
+                INT8 | INT4 => words::measured,
+                _ => words::numbers,
+            };
+            store.append(layer, &numbers(keys), &numbers(values));
             let after = store.cached_len(layer);
             let room = Room::of(&record.shape());
             self.picture().draw(&room, &store, layer, before..after);

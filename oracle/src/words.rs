@@ -151,6 +151,21 @@ pub fn numbers(run: &[u32]) -> Vec<f32> {
     run.iter().copied().map(f32::from_bits).collect()
 }
 
+/// The numbers of a run of which the Rust takes a scale.
+pub fn measured(run: &[u32]) -> Vec<f32> {
+    run.iter().copied().map(f32::from_bits).map(quiet).collect()
+}
+
+/// A number that the Rust's `max` treats alike on every machine: on Arm it answers a NaN where one of the two is signalling, and so
+/// forgets the largest number before it, where it skips a quiet one.
+pub fn quiet(number: f32) -> f32 {
+    if cfg!(target_arch = "aarch64") && number.is_nan() {
+        f32::NAN
+    } else {
+        number
+    }
+}
+
 #[cfg(test)]
 mod tests {
     use super::*;

@@ -110,7 +110,7 @@ fn reply_to(numbers: usize, bytes: usize) -> u32 {
 /// The group's own scale, or any.
 fn scale_for(run: &[u32], dice: &mut Dice) -> f32 {
     match dice.below(2) {
-        0 => rust::compute_int4_scale(&words::numbers(run)),
+        0 => rust::compute_int4_scale(&words::measured(run)),
         _ => f32::from_bits(words::any(dice)),
     }
 }

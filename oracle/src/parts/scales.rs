@@ -16,7 +16,7 @@ pub fn parts(reach: Reach) -> Vec<Part> {
     let rounds = reach.pick(200, 8);
     vec![
         each_pattern("scales of each pattern alone", reach, |word, tally| {
-            scales(&[word], &[f32::from_bits(word)], tally)
+            scales(&[word], &[words::quiet(f32::from_bits(word))], tally)
         }),
         Part::new("scales of runs of 0 to 256", rounds * (LONGEST + 1), runs),
     ]
@@ -40,7 +40,7 @@ fn scales(run: &[u32], numbers: &[f32], tally: &mut Tally) {
 /// Both scales of a run that the dice make.
 pub fn play(dice: &mut Dice, tally: &mut Tally) {
     let run = words::run(dice.place(LONGEST as usize + 1), dice);
-    scales(&run, &words::numbers(&run), tally);
+    scales(&run, &words::measured(&run), tally);
 }
 
 /// Runs of one length.
@@ -49,6 +49,6 @@ fn runs(piece: u64, tally: &mut Tally) {
     let length = (piece % (LONGEST + 1)) as usize;
     for _ in 0..RUNS {
         let run = words::run(length, &mut dice);
-        scales(&run, &words::numbers(&run), tally);
+        scales(&run, &words::measured(&run), tally);
     }
 }

@@ -18,9 +18,11 @@ pub fn counted(name: &str, work: impl FnOnce()) {
     request(STOP, 0);
 }
 
-/// Makes a request with one argument: rotations that together change nothing, which valgrind knows.
+/// Makes a request with one argument: rotations that together change nothing, which valgrind knows, and an instruction that nothing else
+/// has, by which an emulator's plugin knows them.
 fn request(number: u64, argument: u64) {
     let arguments = [number, argument, 0, 0, 0, 0];
+    #[cfg(target_arch = "x86_64")]
     unsafe {
         asm!(
             "rol rdi, 3",
@@ -30,6 +32,18 @@ fn request(number: u64, argument: u64) {
             "xchg rbx, rbx",
             in("rax") arguments.as_ptr(),
             inout("rdx") 0u64 => _,
+        );
+    }
+    #[cfg(target_arch = "aarch64")]
+    unsafe {
+        asm!(
+            "ror x12, x12, #3",
+            "ror x12, x12, #13",
+            "ror x12, x12, #51",
+            "ror x12, x12, #61",
+            "orr x10, x10, x10",
+            in("x4") arguments.as_ptr(),
+            inout("x3") 0u64 => _,
         );
     }
 }
