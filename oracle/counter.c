@@ -1,4 +1,4 @@
-// Counts instructions where an emulator runs the oracle: a plugin of qemu's. Debian's qemu-user brings no header for one.
+// Counts instructions on Arm: a plugin of qemu's, which runs the oracle there. Debian's qemu-user brings no header for one.
 #include <inttypes.h>
 #include <stdio.h>
 #include <string.h>
@@ -33,11 +33,11 @@ static void requested(unsigned cpu, void *data) {
 
 static void translated(uint64_t id, struct qemu_plugin_tb *block) {
     (void)id;
-    static const unsigned char request[3] = {0x48, 0x87, 0xDB}; // xchg rbx, rbx
+    static const unsigned char request[4] = {0x4A, 0x01, 0x0A, 0xAA}; // orr x10, x10, x10
     for (size_t i = 0; i < qemu_plugin_tb_n_insns(block); i++) {
         struct qemu_plugin_insn *instruction = qemu_plugin_tb_get_insn(block, i);
         qemu_plugin_register_vcpu_insn_exec_inline(instruction, 0, &count, 1);
-        if (qemu_plugin_insn_size(instruction) == 3 && memcmp(qemu_plugin_insn_data(instruction), request, 3) == 0)
+        if (qemu_plugin_insn_size(instruction) == 4 && memcmp(qemu_plugin_insn_data(instruction), request, 4) == 0)
             qemu_plugin_register_vcpu_insn_exec_cb(instruction, requested, 0, NULL);
     }
 }

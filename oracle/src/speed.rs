@@ -25,9 +25,6 @@ use std::path::Path;
 use std::process::ExitCode;
 use std::{fs, io};
 
-/// The file that the drawing is written to.
-const DRAWING: &str = "speed.svg";
-
 /// Prints the bars, the grid and the growth, and draws them into a folder where one is given; fails where results differ.
 pub fn measure(folder: Option<&Path>) -> ExitCode {
     ended(measured(folder))
@@ -76,8 +73,13 @@ fn measured(folder: Option<&Path>) -> Result<(), String> {
         return Ok(());
     };
     let drawing = plot::drawing(&table, &grid, &machine::line());
-    let file = folder.join(DRAWING);
+    let file = folder.join(drawing_name(machine::ARCHIVE));
     fs::write(&file, drawing).map_err(|error| told(&file, error))
+}
+
+/// The file that the drawing of an archive's speed is written to: one folder has those of several.
+fn drawing_name(archive: &str) -> String {
+    format!("speed-{archive}.svg")
 }
 
 /// What went wrong with a file or a folder.
@@ -92,5 +94,16 @@ fn print_header() {
     println!("and memory take turns. Results were compared bit by bit before they were timed.");
     for call in Call::ALL {
         println!("{:<19}{}", call.name(), call.state());
+    }
+}
+
+#[cfg(test)]
+mod tests {
+    use super::*;
+
+    #[test]
+    fn each_archive_has_a_drawing_of_its_own() {
+        assert_eq!(drawing_name("x86-64-v3"), "speed-x86-64-v3.svg");
+        assert_eq!(drawing_name("aarch64"), "speed-aarch64.svg");
     }
 }

@@ -3,6 +3,7 @@
 use super::bars::{Bar, BARS, SIZE};
 use super::callgrind;
 use super::kernel::{Call, Kernel, Way};
+use super::machine;
 use super::progress::Progress;
 use super::stores::{Inputs, Size};
 use super::table::{line, number, whole, Column};
@@ -153,15 +154,23 @@ const COLUMNS: [Column; 4] = [
     Column::Number(6),
 ];
 
-/// Prints instructions for one number, and their ratio.
+/// What the instruction counts as by which the C library clears a long stretch.
+const CLEARED: &str = if cfg!(target_arch = "x86_64") {
+    "A byte that one instruction clears in its turn counts as one."
+} else {
+    "An instruction that clears 64 bytes counts as one."
+};
+
+/// Prints what is counted, the instructions for one number, and their ratio.
 fn print_table(counts: &Counts) -> Result<(), String> {
+    println!("{}", machine::build());
     println!(
         "Instructions for one number: {} positions, or as many as a row says, H {}, D {}, against the lifted Rust, truncate and",
         whole(SIZE.positions),
         SIZE.heads,
         SIZE.head_size
     );
-    println!("open against clearing as many bytes. A byte that one instruction clears in its turn counts as one.");
+    println!("open against clearing as many bytes. {CLEARED}");
     println!("{}", line(&COLUMNS, &["", "ours", "other", "ratio"]));
     for row in rows() {
         println!("{}", line(&COLUMNS, &cells(&row, counts)?));

@@ -53,8 +53,8 @@ mod tests {
 
     /// Drawings of small and large ratios and times, and of none.
     fn drawings() -> [String; 4] {
-        let machine =
-            "A processor of some name @ 2.80GHz, cores: 2, rustc 1.85.0 (4d91de4e4 2025-02-17)";
+        let machine = "A processor of some name @ 2.80GHz, cores: 2, archive aarch64-android, \
+                       rustc 1.85.0 (4d91de4e4 2025-02-17)";
         [
             drawing(
                 &table(|row| 0.1 * row as f64),
