@@ -1,18 +1,6 @@
-//! Links the static library that the oracle judges.
-use std::path::PathBuf;
+//! Tells the oracle which compiler made it and which archive it judges.
+use std::env;
 use std::process::Command;
-use std::{env, process};
-
-/// The folder of the archive: `KV_LIB_DIR`, or `target/staticlib` beside this project.
-fn library_folder() -> PathBuf {
-    match env::var_os("KV_LIB_DIR") {
-        Some(folder) => PathBuf::from(folder),
-        None => {
-            let manifest = env::var_os("CARGO_MANIFEST_DIR").unwrap_or_default();
-            PathBuf::from(manifest).join("../target/staticlib")
-        }
-    }
-}
 
 /// What the compiler calls itself.
 fn compiler() -> Option<String> {
@@ -24,18 +12,11 @@ fn compiler() -> Option<String> {
 }
 
 fn main() {
-    let folder = library_folder();
-    let archive = folder.join("libhost.a");
-    println!("cargo:rerun-if-env-changed=KV_LIB_DIR");
-    println!("cargo:rerun-if-changed={}", archive.display());
-    if !archive.is_file() {
-        let archive = archive.display();
-        eprintln!("{archive} is missing: make it with `tools/archive` at the repository's root, or name its folder in KV_LIB_DIR");
-        process::exit(1);
-    }
-    println!("cargo:rustc-link-search=native={}", folder.display());
-    println!("cargo:rustc-link-lib=static=host");
+    println!("cargo::rerun-if-changed=build.rs");
     if let Some(compiler) = compiler() {
-        println!("cargo:rustc-env=ORACLE_COMPILER={compiler}");
+        println!("cargo::rustc-env=ORACLE_COMPILER={compiler}");
     }
+    // The build script of kv-sys says it.
+    let archive = env::var("DEP_HOST_ARCHIVE").unwrap_or_default();
+    println!("cargo::rustc-env=ORACLE_ARCHIVE={archive}");
 }

@@ -1,5 +1,5 @@
 //! Holds a program to the model on random files.
-use crate::dice::Dice;
+use crate::dice;
 use crate::draws;
 use crate::judge;
 use crate::model;
@@ -71,7 +71,7 @@ impl Trial {
     }
 
     fn try_file(&self, number: u64, outcome: &mut Outcome) -> io::Result<()> {
-        let mut dice = Dice::of(self.seed, number);
+        let mut dice = dice::of(self.seed, number);
         let file = draws::file(&mut dice);
         let (front, back) = file.split_at(dice.place(file.len()));
         let played = model::play(&file);

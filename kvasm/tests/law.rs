@@ -1,6 +1,6 @@
 //! The law of the text: what comes back of a file assembles to the same bytes.
 use kvasm::back::back;
-use kvasm::dice::{Dice, SEED};
+use kvasm::dice::{self, SEED};
 use kvasm::{draws, folder, numbers, text};
 
 fn comes_back(file: &[u8]) {
@@ -15,14 +15,14 @@ fn comes_back(file: &[u8]) {
 #[test]
 fn random_and_damaged_files_come_back() {
     for number in 0..6000 {
-        comes_back(&draws::file(&mut Dice::of(SEED, number)));
+        comes_back(&draws::file(&mut dice::of(SEED, number)));
     }
 }
 
 #[test]
 fn bytes_without_any_order_come_back() {
     for number in 0..3000 {
-        let mut dice = Dice::of(SEED + 1, number);
+        let mut dice = dice::of(SEED + 1, number);
         let length = dice.place(300);
         comes_back(&dice.bytes(length));
     }
@@ -59,7 +59,7 @@ fn number_reads_back_to_its_bits() {
         0x7FC0_0000,
         0xFFFF_FFFF,
     ];
-    let mut dice = Dice::of(SEED, 0);
+    let mut dice = dice::of(SEED, 0);
     let drawn = (0..200_000).map(|_| dice.word());
     for bits in special.into_iter().chain(drawn) {
         let word = numbers::word_of(bits);

@@ -1,5 +1,5 @@
 //! Running programs: what a random file asks for, how a difference is told, and the faults that `kvasm` prints.
-use kvasm::dice::{Dice, SEED};
+use kvasm::dice::{self, SEED};
 use kvasm::fuzz::Trial;
 use kvasm::runs::Program;
 use kvasm::tally::Tally;
@@ -21,7 +21,7 @@ fn trial(program: &str, wrapper: &[&str]) -> Trial {
 fn random_files_ask_for_every_line_often() {
     let mut tally = Tally::default();
     for number in 0..3000 {
-        let file = draws::file(&mut Dice::of(SEED, number));
+        let file = draws::file(&mut dice::of(SEED, number));
         assert!(file.len() <= draws::MOST_FILE);
         tally.count(&file, &model::play(&file));
     }
@@ -36,7 +36,7 @@ fn random_files_ask_for_every_line_often() {
 fn random_files_reach_both_sides_of_both_limits() {
     let mut tally = Tally::default();
     for number in 0..2000 {
-        let file = draws::file(&mut Dice::of(SEED, number));
+        let file = draws::file(&mut dice::of(SEED, number));
         tally.count(&file, &model::play(&file));
     }
     let edges = &tally.edges;
@@ -60,7 +60,7 @@ fn folder_tells_of_each_file_that_differs() {
 #[test]
 fn program_gets_the_whole_file_in_any_pieces() {
     let cat = Program::new("cat".into(), &[]);
-    let file = Dice::of(SEED, 0).bytes(20_000);
+    let file = dice::of(SEED, 0).bytes(20_000);
     for pieces in [&[&file[..]][..], &[&file[..7], &file[7..]]] {
         let run = cat.run(pieces).expect("it starts").expect("it ends");
         assert!(run.output == file && run.errors.is_empty() && run.status.success());

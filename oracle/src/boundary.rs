@@ -1,6 +1,10 @@
-//! The static library's functions, and a safe wrapper on slices for each.
-use crate::record::{Lent, Shape, WORDS};
+//! A safe wrapper on slices for each of the static library's functions.
+//!
+//! What a call only reads of a store is lent by a mutable pointer too: the compiler may not assume that it stays.
+use crate::record::{Lent, Shape, FIRST_LENGTH, SEQ_LEN, WORDS};
 use crate::replies::{Head, Place};
+use kv_sys::*;
+use std::mem::offset_of;
 
 /// The reply of a call that was done.
 pub const DONE: u32 = 0;
@@ -9,114 +13,9 @@ const DIRT: usize = 0xA5A5_A5A5;
 /// The reply to a group under 32 numbers or 16 bytes.
 pub const SHORT: u32 = 7;
 
-extern "C" {
-    fn kv_int8_scale(run: *const u32, run_length: usize) -> f32;
-    fn kv_int4_scale(run: *const u32, run_length: usize) -> f32;
-    fn kv_quantize_i8(word: u32, scale: f32) -> u8;
-    fn kv_quantize_i4(word: u32, scale: f32) -> u8;
-    fn kv_dequantize_i8(code: u8, scale: f32) -> u32;
-    fn kv_pack_i4_group(
-        src: *const u32,
-        src_length: usize,
-        scale: f32,
-        dst: *mut u8,
-        dst_length: usize,
-    ) -> u32;
-    fn kv_unpack_i4_group(
-        packed: *const u8,
-        packed_length: usize,
-        scale: f32,
-        dst: *mut u32,
-        dst_length: usize,
-    ) -> u32;
-    fn kv_f32_to_bf16(word: u32) -> u16;
-    fn kv_bf16_to_f32(half: u16) -> u32;
-    fn kv_need(
-        format: u32,
-        layers: u32,
-        heads: u32,
-        head_size: u32,
-        capacity: u32,
-        cells: *mut usize,
-        scales: *mut usize,
-    ) -> u32;
-    fn kv_open(
-        rec: *mut u32,
-        format: u32,
-        layers: u32,
-        heads: u32,
-        head_size: u32,
-        capacity: u32,
-        cells: *mut u8,
-        cells_length: usize,
-        scales: *mut u32,
-        scales_length: usize,
-    ) -> u32;
-    fn kv_append(
-        rec: *mut u32,
-        cells: *mut u8,
-        cells_length: usize,
-        scales: *mut u32,
-        scales_length: usize,
-        layer: u32,
-        keys: *const u32,
-        keys_length: usize,
-        values: *const u32,
-        values_length: usize,
-    ) -> u32;
-    fn kv_truncate(
-        rec: *mut u32,
-        cells: *mut u8,
-        cells_length: usize,
-        scales: *mut u32,
-        scales_length: usize,
-        layer: u32,
-        t: u32,
-    ) -> u32;
-    fn kv_advance(rec: *mut u32, count: u32) -> u32;
-    fn kv_cached_len(rec: *mut u32, layer: u32, count: *mut u64) -> u32;
-    fn kv_memory_bytes(rec: *mut u32, count: *mut u64) -> u32;
-    fn kv_read_row(
-        rec: *mut u32,
-        cells: *const u8,
-        cells_length: usize,
-        scales: *const u32,
-        scales_length: usize,
-        layer: u32,
-        side: u32,
-        head: u32,
-        position: u32,
-        out: *mut u32,
-        out_length: usize,
-    ) -> u32;
-    fn kv_scores(
-        rec: *mut u32,
-        cells: *const u8,
-        cells_length: usize,
-        scales: *const u32,
-        scales_length: usize,
-        layer: u32,
-        head: u32,
-        query: *const f32,
-        query_length: usize,
-        scale: f32,
-        out: *mut u32,
-        out_length: usize,
-    ) -> u32;
-    fn kv_sums(
-        rec: *mut u32,
-        cells: *const u8,
-        cells_length: usize,
-        scales: *const u32,
-        scales_length: usize,
-        layer: u32,
-        head: u32,
-        weights: *const f32,
-        weights_length: usize,
-        out: *mut u32,
-        out_length: usize,
-    ) -> u32;
-}
+const _: () = assert!(size_of::<Record>() == 4 * WORDS);
+const _: () = assert!(offset_of!(Record, seq_len) == 4 * SEQ_LEN);
+const _: () = assert!(offset_of!(Record, lens) == 4 * FIRST_LENGTH);
 
 /// The INT8 scale of a run.
 pub fn int8_scale(run: &[u32]) -> f32 {
@@ -130,17 +29,17 @@ pub fn int4_scale(run: &[u32]) -> f32 {
 
 /// The INT8 code of a number, a byte in two's complement.
 pub fn quantize_i8(word: u32, scale: f32) -> u8 {
-    unsafe { kv_quantize_i8(word, scale) }
+    kv_quantize_i8(word, scale)
 }
 
 /// The INT4 code of a number.
 pub fn quantize_i4(word: u32, scale: f32) -> u8 {
-    unsafe { kv_quantize_i4(word, scale) }
+    kv_quantize_i4(word, scale)
 }
 
 /// The word that an INT8 code reads as.
 pub fn dequantize_i8(code: u8, scale: f32) -> u32 {
-    unsafe { kv_dequantize_i8(code, scale) }
+    kv_dequantize_i8(code, scale)
 }
 
 /// Packs the first 32 numbers into the first 16 bytes; the reply.
@@ -163,12 +62,12 @@ pub fn unpack_i4_group(packed: &[u8], scale: f32, dst: &mut [u32]) -> u32 {
 
 /// The BF16 half of a word.
 pub fn f32_to_bf16(word: u32) -> u16 {
-    unsafe { kv_f32_to_bf16(word) }
+    kv_f32_to_bf16(word)
 }
 
 /// The word that a BF16 half reads as.
 pub fn bf16_to_f32(half: u16) -> u32 {
-    unsafe { kv_bf16_to_f32(half) }
+    kv_bf16_to_f32(half)
 }
 
 /// The reply to a shape, and what it needs.
@@ -202,7 +101,7 @@ pub struct Lending<'a> {
 pub fn open(lending: Lending, shape: &Shape) -> u32 {
     unsafe {
         kv_open(
-            lending.record.as_mut_ptr(),
+            lending.record.as_mut_ptr().cast(),
             shape.format,
             shape.layers,
             shape.heads,
@@ -220,7 +119,7 @@ pub fn open(lending: Lending, shape: &Shape) -> u32 {
 pub fn append(lending: Lending, layer: u32, keys: &[u32], values: &[u32]) -> u32 {
     unsafe {
         kv_append(
-            lending.record.as_mut_ptr(),
+            lending.record.as_mut_ptr().cast(),
             lending.cells.as_mut_ptr(),
             lending.cells.len(),
             lending.scales.as_mut_ptr(),
@@ -238,7 +137,7 @@ pub fn append(lending: Lending, layer: u32, keys: &[u32], values: &[u32]) -> u32
 pub fn truncate(lending: Lending, layer: u32, to: u32) -> u32 {
     unsafe {
         kv_truncate(
-            lending.record.as_mut_ptr(),
+            lending.record.as_mut_ptr().cast(),
             lending.cells.as_mut_ptr(),
             lending.cells.len(),
             lending.scales.as_mut_ptr(),
@@ -251,24 +150,24 @@ pub fn truncate(lending: Lending, layer: u32, to: u32) -> u32 {
 
 /// Adds to `seq_len`; the reply.
 pub fn advance(record: &mut [u32; WORDS], count: u32) -> u32 {
-    unsafe { kv_advance(record.as_mut_ptr(), count) }
+    unsafe { kv_advance(record.as_mut_ptr().cast(), count) }
 }
 
 /// Counts a layer's positions; the reply.
 pub fn cached_len(record: &mut [u32; WORDS], layer: u32, count: &mut u64) -> u32 {
-    unsafe { kv_cached_len(record.as_mut_ptr(), layer, count) }
+    unsafe { kv_cached_len(record.as_mut_ptr().cast(), layer, count) }
 }
 
 /// Counts the bytes of all rows; the reply.
 pub fn memory_bytes(record: &mut [u32; WORDS], count: &mut u64) -> u32 {
-    unsafe { kv_memory_bytes(record.as_mut_ptr(), count) }
+    unsafe { kv_memory_bytes(record.as_mut_ptr().cast(), count) }
 }
 
 /// Reads a row; the reply.
 pub fn read_row(lending: Lending, place: Place, output: &mut [u32]) -> u32 {
     unsafe {
         kv_read_row(
-            lending.record.as_mut_ptr(),
+            lending.record.as_mut_ptr().cast(),
             lending.cells.as_mut_ptr(),
             lending.cells.len(),
             lending.scales.as_mut_ptr(),
@@ -288,7 +187,7 @@ pub fn read_row(lending: Lending, place: Place, output: &mut [u32]) -> u32 {
 pub fn scores(lending: Lending, head: Head, query: &[u32], scale: f32, output: &mut [u32]) -> u32 {
     unsafe {
         kv_scores(
-            lending.record.as_mut_ptr(),
+            lending.record.as_mut_ptr().cast(),
             lending.cells.as_mut_ptr(),
             lending.cells.len(),
             lending.scales.as_mut_ptr(),
@@ -308,7 +207,7 @@ pub fn scores(lending: Lending, head: Head, query: &[u32], scale: f32, output: &
 pub fn sums(lending: Lending, head: Head, weights: &[u32], output: &mut [u32]) -> u32 {
     unsafe {
         kv_sums(
-            lending.record.as_mut_ptr(),
+            lending.record.as_mut_ptr().cast(),
             lending.cells.as_mut_ptr(),
             lending.cells.len(),
             lending.scales.as_mut_ptr(),

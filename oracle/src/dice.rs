@@ -1,16 +1,16 @@
-//! The random numbers: splitmix64 from a fixed seed, or first what a tape says.
+//! The random numbers: dice from a fixed seed, or first what a tape says.
+use dice::{mixed, scaled};
 use std::vec::IntoIter;
 
 /// The seed of every random input.
 pub const SEED: u64 = 0x6B76_6F72_6163_6C65;
-const STEP: u64 = 0x9E37_79B9_7F4A_7C15;
 
 /// Bytes of a tape that seed what the tape does not say.
 const SEED_BYTES: usize = 8;
 
 /// A generator of random numbers.
 pub struct Dice {
-    state: u64,
+    untaped: dice::Dice,
     tape: IntoIter<u8>,
     is_taped: bool,
 }
@@ -18,11 +18,11 @@ pub struct Dice {
 impl Dice {
     /// The generator of one piece of a part: the same inputs on any number of threads.
     pub fn of(part: &str, piece: u64) -> Dice {
-        let state = part
+        let seed = part
             .bytes()
-            .fold(SEED, |state, byte| mixed(state ^ u64::from(byte)));
+            .fold(SEED, |seed, byte| mixed(seed ^ u64::from(byte)));
         Dice {
-            state: mixed(state ^ piece),
+            untaped: dice::Dice::new(mixed(seed ^ piece)),
             tape: Vec::new().into_iter(),
             is_taped: false,
         }
@@ -32,7 +32,7 @@ impl Dice {
     pub fn on_tape(tape: &[u8]) -> Dice {
         let (seed, tape) = tape.split_at(tape.len().min(SEED_BYTES));
         Dice {
-            state: number_of(seed),
+            untaped: dice::Dice::new(number_of(seed)),
             tape: Vec::from(tape).into_iter(),
             is_taped: true,
         }
@@ -50,32 +50,22 @@ impl Dice {
         Some(front)
     }
 
-    /// The next 64 random bits, of which no tape says anything.
-    fn bits(&mut self) -> u64 {
-        self.state = self.state.wrapping_add(STEP);
-        mixed(self.state)
-    }
-
     /// A random word, every pattern equally likely.
     pub fn word(&mut self) -> u32 {
         match self.taken(4) {
             Some(word) => word as u32,
-            None => self.mixed_word(),
+            None => self.untaped.word(),
         }
-    }
-
-    /// A random word, of which no tape says anything.
-    fn mixed_word(&mut self) -> u32 {
-        (self.bits() >> 32) as u32
     }
 
     /// A random whole number below `bound`.
     pub fn below(&mut self, bound: u32) -> u32 {
         let few = if bound <= 256 { self.taken(1) } else { None };
-        match few {
-            Some(byte) => ((byte * u64::from(bound)) >> 8) as u32,
-            None => ((u64::from(self.word()) * u64::from(bound)) >> 32) as u32,
-        }
+        let word = match few {
+            Some(byte) => (byte as u32) << 24,
+            None => self.word(),
+        };
+        scaled(word, bound)
     }
 
     /// A random length or place below `bound`.
@@ -90,12 +80,12 @@ impl Dice {
 
     /// Random bytes; a tape is too short for them.
     pub fn bytes(&mut self, length: usize) -> Vec<u8> {
-        (0..length).map(|_| self.mixed_word() as u8).collect()
+        self.untaped.bytes(length)
     }
 
     /// Random words, every pattern equally likely; a tape is too short for them.
     pub fn words(&mut self, length: usize) -> Vec<u32> {
-        (0..length).map(|_| self.mixed_word()).collect()
+        self.untaped.words(length)
     }
 }
 
@@ -104,13 +94,6 @@ fn number_of(bytes: &[u8]) -> u64 {
     bytes
         .iter()
         .rfold(0, |number, byte| number << 8 | u64::from(*byte))
-}
-
-/// The mixing step of splitmix64.
-fn mixed(state: u64) -> u64 {
-    let state = (state ^ (state >> 30)).wrapping_mul(0xBF58_476D_1CE4_E5B9);
-    let state = (state ^ (state >> 27)).wrapping_mul(0x94D0_49BB_1331_11EB);
-    state ^ (state >> 31)
 }
 
 #[cfg(test)]

@@ -32,3 +32,6 @@ pub mod tally;
 pub mod vectors;
 mod wanted;
 mod words;
+
+/// The name of the archive that is judged.
+pub const ARCHIVE: &str = env!("ORACLE_ARCHIVE");

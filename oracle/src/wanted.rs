@@ -1,6 +1,6 @@
 //! What every call has to answer and to leave: replies from the paper's table, the rest from the lifted store.
 use crate::calls::{Answer, Call, Change, Holdings, Told};
-use crate::record::{Lent, Record, Shape, SEQ_LEN, INT4, INT8};
+use crate::record::{Lent, Record, Shape, INT4, INT8, SEQ_LEN};
 use crate::replies::{self, Head, Place};
 use crate::rows::{empty_store, row_of, store_in, Picture, Room};
 use crate::rust_store::KvStore;

@@ -1,43 +1,15 @@
-//! The static library's functions, and a safe function on slices for each that takes one.
+//! A safe function on slices and borrows for each of the static library's functions that takes a pointer.
 //!
 //! All `unsafe` of the crate stands here. The library checks every record, length and number that it is lent. It trusts
 //! its caller in three things: a pointer goes with the length beside it, what a call writes overlaps no other argument,
 //! and nobody else writes what a call is lent. A slice or a borrow promises all three, whatever it holds.
 use crate::refusal::{answer, Refusal};
-use crate::shape::{Shape, Side};
+use crate::shape::{Need, Shape, Side};
+use kv_sys::*;
 
-/// The most layers of a record.
-const MOST_LAYERS: usize = 128;
-
-/// The record of a store, as the library has it.
-#[repr(C)]
-#[derive(Clone, PartialEq, Eq)]
-pub struct Record {
-    format: u32,
-    layers: u32,
-    heads: u32,
-    head_size: u32,
-    capacity: u32,
-    pub seq_len: u32,
-    pub lens: [u32; MOST_LAYERS],
-}
-
-const _: () = assert!(size_of::<Record>() == 134 * 4);
-// The archive counts in words of 64 bits.
-const _: () = assert!(size_of::<usize>() == 8);
-
-impl Record {
-    /// The record before a store is opened.
-    pub const ZEROS: Record = Record {
-        format: 0,
-        layers: 0,
-        heads: 0,
-        head_size: 0,
-        capacity: 0,
-        seq_len: 0,
-        lens: [0; MOST_LAYERS],
-    };
-}
+pub use kv_sys::{
+    kv_bf16_to_f32, kv_dequantize_i8, kv_f32_to_bf16, kv_quantize_i4, kv_quantize_i8, Record,
+};
 
 /// What a store lends to its calls.
 #[derive(PartialEq, Eq)]
@@ -47,120 +19,29 @@ pub struct Lent {
     pub scales: Vec<u32>,
 }
 
-// SAFETY: `tests/header.rs` holds each to the archive's own declaration; the safe ones take numbers and borrows alone.
-unsafe extern "C" {
-    pub safe fn kv_need(
-        format: u32,
-        layers: u32,
-        heads: u32,
-        head_size: u32,
-        capacity: u32,
-        cells: &mut usize,
-        scales: &mut usize,
-    ) -> u32;
-    fn kv_open(
-        rec: &mut Record,
-        format: u32,
-        layers: u32,
-        heads: u32,
-        head_size: u32,
-        capacity: u32,
-        cells: *mut u8,
-        cells_len: usize,
-        scales: *mut u32,
-        scales_len: usize,
-    ) -> u32;
-    fn kv_append(
-        rec: &mut Record,
-        cells: *mut u8,
-        cells_len: usize,
-        scales: *mut u32,
-        scales_len: usize,
-        layer: u32,
-        keys: *const u32,
-        keys_len: usize,
-        values: *const u32,
-        values_len: usize,
-    ) -> u32;
-    fn kv_truncate(
-        rec: &mut Record,
-        cells: *mut u8,
-        cells_len: usize,
-        scales: *mut u32,
-        scales_len: usize,
-        layer: u32,
-        t: u32,
-    ) -> u32;
-    pub safe fn kv_advance(rec: &mut Record, count: u32) -> u32;
-    pub safe fn kv_cached_len(rec: &Record, layer: u32, count: &mut u64) -> u32;
-    pub safe fn kv_memory_bytes(rec: &Record, count: &mut u64) -> u32;
-    fn kv_read_row(
-        rec: &Record,
-        cells: *const u8,
-        cells_len: usize,
-        scales: *const u32,
-        scales_len: usize,
-        layer: u32,
-        side: u32,
-        head: u32,
-        position: u32,
-        out: *mut u32,
-        out_len: usize,
-    ) -> u32;
-    fn kv_scores(
-        rec: &Record,
-        cells: *const u8,
-        cells_len: usize,
-        scales: *const u32,
-        scales_len: usize,
-        layer: u32,
-        head: u32,
-        query: *const f32,
-        query_len: usize,
-        scale: f32,
-        out: *mut u32,
-        out_len: usize,
-    ) -> u32;
-    fn kv_sums(
-        rec: &Record,
-        cells: *const u8,
-        cells_len: usize,
-        scales: *const u32,
-        scales_len: usize,
-        layer: u32,
-        head: u32,
-        weights: *const f32,
-        weights_len: usize,
-        out: *mut u32,
-        out_len: usize,
-    ) -> u32;
-    fn kv_int8_scale(run: *const u32, run_len: usize) -> f32;
-    fn kv_int4_scale(run: *const u32, run_len: usize) -> f32;
-    pub safe fn kv_quantize_i8(x: u32, scale: f32) -> u8;
-    pub safe fn kv_quantize_i4(x: u32, scale: f32) -> u8;
-    pub safe fn kv_dequantize_i8(code: u8, scale: f32) -> u32;
-    fn kv_pack_i4_group(
-        src: *const u32,
-        src_len: usize,
-        scale: f32,
-        dst: *mut u8,
-        dst_len: usize,
-    ) -> u32;
-    fn kv_unpack_i4_group(
-        packed: *const u8,
-        packed_len: usize,
-        scale: f32,
-        dst: *mut u32,
-        dst_len: usize,
-    ) -> u32;
-    pub safe fn kv_f32_to_bf16(x: u32) -> u16;
-    pub safe fn kv_bf16_to_f32(half: u16) -> u32;
-}
-
 /// A number as the library takes it. One that does not fit is past every limit of the paper, and so is the greatest
 /// word: the call is refused, or for a truncation changes nothing, as it would be for the number itself.
 pub fn word(number: usize) -> u32 {
     u32::try_from(number).unwrap_or(u32::MAX)
+}
+
+/// What a store of a shape needs.
+pub fn need(shape: &Shape) -> Result<Need, Refusal> {
+    let [format, layers, heads, head_size, capacity] = shape.words();
+    let (mut cells, mut scales) = (0, 0);
+    // SAFETY: the two counts are all that is written.
+    answer(unsafe {
+        kv_need(
+            format,
+            layers,
+            heads,
+            head_size,
+            capacity,
+            &mut cells,
+            &mut scales,
+        )
+    })?;
+    Ok(Need { cells, scales })
 }
 
 /// Opens a store in what is lent.
@@ -216,6 +97,28 @@ pub fn truncate(lent: &mut Lent, layer: u32, t: u32) -> Result<(), Refusal> {
             t,
         )
     })
+}
+
+/// Adds to `seq_len`.
+pub fn advance(record: &mut Record, count: u32) -> Result<(), Refusal> {
+    // SAFETY: the record is all that is lent.
+    answer(unsafe { kv_advance(record, count) })
+}
+
+/// The positions of a layer.
+pub fn cached_len(record: &Record, layer: u32) -> Result<u64, Refusal> {
+    let mut count = 0;
+    // SAFETY: the record is read alone; only the count is written.
+    answer(unsafe { kv_cached_len(record, layer, &mut count) })?;
+    Ok(count)
+}
+
+/// The bytes of all rows.
+pub fn memory_bytes(record: &Record) -> Result<u64, Refusal> {
+    let mut count = 0;
+    // SAFETY: the record is read alone; only the count is written.
+    answer(unsafe { kv_memory_bytes(record, &mut count) })?;
+    Ok(count)
 }
 
 /// Reads one row.

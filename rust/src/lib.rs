@@ -40,7 +40,7 @@
 //!
 //! # What is assumed
 //!
-//! That the back end of the toolchain turns the proved source into what it says, that the functions are declared here
+//! That the back end of the toolchain turns the proved source into what it says, that `kv-sys` declares the functions
 //! as the archive has them, and that the processor rounds to nearest and keeps subnormals, as it does unless a program
 //! sets it otherwise. This crate's own lines hand slices over and turn numbers into a [`Refusal`]; they are not proved.
 //! They and the declarations are tested.

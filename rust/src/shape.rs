@@ -1,6 +1,6 @@
 //! Shapes: formats, sides, the size of a store, and what it needs.
-use crate::boundary::{kv_need, word};
-use crate::refusal::{answer, Refusal};
+use crate::boundary::{self, word};
+use crate::refusal::Refusal;
 
 /// How numbers are stored. Cast to an integer it is the paper's number, 0 to 3.
 #[derive(Clone, Copy, PartialEq, Eq, Hash, Debug)]
@@ -64,21 +64,7 @@ impl Shape {
     /// assert_eq!(Shape { layers: 3, ..shape }.need(), Err(Refusal::Shape));
     /// ```
     pub fn need(&self) -> Result<Need, Refusal> {
-        let [format, layers, heads, head_size, capacity] = self.words();
-        let mut need = Need {
-            cells: 0,
-            scales: 0,
-        };
-        answer(kv_need(
-            format,
-            layers,
-            heads,
-            head_size,
-            capacity,
-            &mut need.cells,
-            &mut need.scales,
-        ))?;
-        Ok(need)
+        boundary::need(self)
     }
 
     /// The five numbers of the shape, in the paper's order.

@@ -1,6 +1,6 @@
 //! The store: a record, its two buffers, and the calls on them.
-use crate::boundary::{self, kv_advance, kv_cached_len, kv_memory_bytes, word, Lent, Record};
-use crate::refusal::{answer, Refusal};
+use crate::boundary::{self, word, Lent, Record};
+use crate::refusal::Refusal;
 use crate::shape::{Shape, Side};
 use std::fmt;
 
@@ -212,7 +212,7 @@ impl Store {
     /// # Ok::<(), Refusal>(())
     /// ```
     pub fn advance_seq_len(&mut self, count: u32) -> Result<(), Refusal> {
-        answer(kv_advance(&mut self.lent.record, count))
+        boundary::advance(&mut self.lent.record, count)
     }
 
     /// The positions of a layer.
@@ -230,8 +230,7 @@ impl Store {
     /// # Ok::<(), Refusal>(())
     /// ```
     pub fn cached_len(&self, layer: usize) -> Result<usize, Refusal> {
-        let mut count = 0;
-        answer(kv_cached_len(&self.lent.record, word(layer), &mut count))?;
+        let count = boundary::cached_len(&self.lent.record, word(layer))?;
         // A length is at most the capacity, which is a usize.
         Ok(count as usize)
     }
@@ -251,9 +250,7 @@ impl Store {
     /// # Ok::<(), Refusal>(())
     /// ```
     pub fn memory_bytes(&self) -> Result<u64, Refusal> {
-        let mut count = 0;
-        answer(kv_memory_bytes(&self.lent.record, &mut count))?;
-        Ok(count)
+        boundary::memory_bytes(&self.lent.record)
     }
 
     /// Reads one position of a side and head into the `head_size` numbers of `out`.

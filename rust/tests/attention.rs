@@ -2,8 +2,8 @@
 mod common;
 
 use common::desk::{token, Desk, Token};
-use common::dice::Dice;
-use common::{bits, heads, made, paper, scores, shape, softmax, sums};
+use common::{bits, heads, made, numbers, paper, scores, shape, softmax, sums};
+use dice::Dice;
 use karonjeenu::{Format, Refusal, Shape, Store};
 
 const WITH_ATTENTION: [Format; 2] = [Format::F32, Format::Int4];
@@ -30,7 +30,7 @@ fn attention_is_plain(desk: &Desk, dice: &mut Dice) -> Vec<f32> {
     let shape = desk.store.shape();
     let format = shape.format;
     for (layer, head) in heads(shape) {
-        let query = dice.plains(shape.head_size);
+        let query = numbers::plains(dice, shape.head_size);
         let scale = 1.0 / (shape.head_size as f32).sqrt();
         let keys = parts(desk, head, |token| &token[layer].keys);
         let values = parts(desk, head, |token| &token[layer].values);
@@ -59,7 +59,7 @@ fn attention_is_plain(desk: &Desk, dice: &mut Dice) -> Vec<f32> {
 fn plain_numbers_attend_as_the_paper_has_it() {
     for format in WITH_ATTENTION {
         let mut dice = Dice::new(5);
-        let desk = full_desk(shape(format), &mut dice, Dice::plains);
+        let desk = full_desk(shape(format), &mut dice, numbers::plains);
         let scored = attention_is_plain(&desk, &mut dice);
         assert!(scored.iter().all(|score| score.is_finite()));
     }
@@ -69,7 +69,7 @@ fn plain_numbers_attend_as_the_paper_has_it() {
 fn wild_numbers_attend_as_the_paper_has_it() {
     for format in WITH_ATTENTION {
         let mut dice = Dice::new(6);
-        let desk = full_desk(shape(format), &mut dice, Dice::numbers);
+        let desk = full_desk(shape(format), &mut dice, numbers::any);
         let scored = attention_is_plain(&desk, &mut dice);
         assert!(scored.iter().any(|score| score.is_nan()));
         assert!(scored.iter().any(|score| score.is_finite()));
@@ -81,8 +81,8 @@ fn order_of_operations_shows_in_the_bits() {
     // Added from the other end a score has other bits, so that the comparison above can fail.
     let shape = shape(Format::F32);
     let mut dice = Dice::new(7);
-    let desk = full_desk(shape, &mut dice, Dice::plains);
-    let query = dice.plains(shape.head_size);
+    let desk = full_desk(shape, &mut dice, numbers::plains);
+    let query = numbers::plains(&mut dice, shape.head_size);
     let backwards = |numbers: &[f32]| numbers.iter().rev().copied().collect::<Vec<f32>>();
     let keys = parts(&desk, 0, |token| &token[0].keys);
     let turned = keys

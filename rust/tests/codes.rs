@@ -1,29 +1,32 @@
 //! The leaves against the paper's rules, over edges, halves, random numbers and scales of every kind.
 mod common;
 
-use common::dice::{Dice, EDGES};
-use common::{bits, made, paper};
+use common::{bits, made, numbers, paper};
+use dice::Dice;
 use karonjeenu::{codes, Format, Refusal};
 
 /// The edges, and the numbers around halves, where a rounding goes wrong.
-fn numbers() -> Vec<f32> {
+fn edges_and_halves() -> Vec<f32> {
     let around_halves = (-40_i8..=40).flat_map(|half| {
         let bits = (f32::from(half) / 2.0).to_bits();
         [bits.wrapping_sub(1), bits, bits + 1].map(f32::from_bits)
     });
-    let edges = EDGES.map(f32::from_bits).into_iter();
+    let edges = numbers::EDGES.map(f32::from_bits).into_iter();
     edges.chain(around_halves).collect()
 }
 
 #[test]
 fn codes_are_the_papers() {
     let mut dice = Dice::new(20);
-    let scales: Vec<f32> = numbers()
+    let scales: Vec<f32> = edges_and_halves()
         .into_iter()
         .step_by(3)
-        .chain(dice.plains(20))
+        .chain(numbers::plains(&mut dice, 20))
         .collect();
-    for x in numbers().into_iter().chain(dice.numbers(100)) {
+    for x in edges_and_halves()
+        .into_iter()
+        .chain(numbers::any(&mut dice, 100))
+    {
         for scale in &scales {
             let (one, other) = (codes::quantize_i8(x, *scale), codes::quantize_i4(x, *scale));
             assert_eq!(one, paper::code8(x, *scale), "{x:?} by {scale:?}");
@@ -36,7 +39,7 @@ fn codes_are_the_papers() {
 fn scales_are_the_papers() {
     let mut dice = Dice::new(21);
     for length in 0..200 {
-        let run = dice.numbers(length);
+        let run = numbers::any(&mut dice, length);
         let (one, other) = (codes::int8_scale(&run), codes::int4_scale(&run));
         assert_eq!(one.to_bits(), paper::int8_scale(&run).to_bits());
         assert_eq!(other.to_bits(), paper::int4_scale(&run).to_bits());
@@ -46,7 +49,7 @@ fn scales_are_the_papers() {
 #[test]
 fn int8_codes_read_as_the_paper_has_it() {
     for code in i8::MIN..=i8::MAX {
-        for scale in numbers() {
+        for scale in edges_and_halves() {
             let read = codes::dequantize_i8(code, scale);
             let wanted = f32::from(code) * scale;
             assert_eq!(bits(&[read]), made(&[wanted]), "{code} by {scale:?}");
@@ -58,7 +61,7 @@ fn int8_codes_read_as_the_paper_has_it() {
 fn groups_are_the_papers() {
     let mut dice = Dice::new(22);
     for _ in 0..200 {
-        let group = dice.numbers(33);
+        let group = numbers::any(&mut dice, 33);
         let scale = codes::int4_scale(&group[..32]);
         let mut packed = [0xA5; 17];
         assert_eq!(codes::pack_i4_group(&group, scale, &mut packed), Ok(()));

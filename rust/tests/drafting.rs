@@ -2,8 +2,8 @@
 mod common;
 
 use common::desk::{token, Desk};
-use common::dice::Dice;
-use common::{bits, heads, made, paper, rows, shape, FORMATS, SIDES};
+use common::{bits, heads, made, numbers, paper, rows, shape, FORMATS, SIDES};
+use dice::Dice;
 use karonjeenu::{Format, Need, Side};
 
 const TURNS: usize = 240;
@@ -31,7 +31,7 @@ fn draft(format: Format) -> Tally {
             _ if full => undo(&mut desk, writer, &mut tally),
             1 | 2 if !desk.withdrawn.is_empty() => redo(&mut desk, writer, &mut tally),
             _ => {
-                desk.put(token(writer, shape, Dice::numbers));
+                desk.put(token(writer, shape, numbers::any));
                 tally.tokens += 1;
                 continue;
             }
@@ -50,14 +50,14 @@ fn draft(format: Format) -> Tally {
 /// Cuts the document back to any earlier token.
 fn undo(desk: &mut Desk, writer: &mut Dice, tally: &mut Tally) {
     let before = desk.store.clone();
-    desk.undo(writer.below(desk.text.len()));
+    desk.undo(writer.place(desk.text.len()));
     assert_ne!(desk.store, before, "something was cut");
     tally.undone += 1;
 }
 
 /// Brings back one withdrawn token or more.
 fn redo(desk: &mut Desk, writer: &mut Dice, tally: &mut Tally) {
-    let count = 1 + writer.below(desk.withdrawn.len());
+    let count = 1 + writer.place(desk.withdrawn.len());
     desk.redo(count);
     tally.tokens += count;
     tally.redone += 1;
@@ -113,7 +113,7 @@ fn byte_count_is_that_of_the_rows() {
         let mut dice = Dice::new(4);
         while desk.text.len() < shape.capacity {
             assert_ne!(desk.store.memory_bytes(), Ok(all_bytes(need)));
-            desk.put(token(&mut dice, shape, Dice::numbers));
+            desk.put(token(&mut dice, shape, numbers::any));
         }
         // A full store's rows are its whole buffers.
         assert_eq!(desk.store.memory_bytes(), Ok(all_bytes(need)));
@@ -129,7 +129,9 @@ fn all_bytes(need: Need) -> u64 {
 #[test]
 fn streams_have_every_kind_of_number() {
     let mut dice = Dice::new(1);
-    let numbers: Vec<f32> = (0..100).flat_map(|_| dice.numbers(100)).collect();
+    let numbers: Vec<f32> = (0..100)
+        .flat_map(|_| numbers::any(&mut dice, 100))
+        .collect();
     let has = |kind: fn(&f32) -> bool| numbers.iter().any(kind);
     assert!(has(|x| x.is_nan() && x.to_bits() & 0x0040_0000 == 0));
     assert!(has(|x| x.is_nan() && x.is_sign_negative()));

@@ -1,14 +1,16 @@
-//! One boundary, declared three times: the library's source, the C header and this crate say the same.
+//! One boundary, declared three times: the library's source, the C header and `kv-sys` say the same.
 mod common;
 
 use common::{read, shape, with, FIELDS, FORMATS, REFUSALS, SIDES};
 use karonjeenu::{Format, Refusal, Shape};
 use std::collections::BTreeMap;
+use std::fs;
+use std::path::{Path, PathBuf};
 
 const SOURCE: &str = "../crates/host/src/lib.rt";
 const REPLIES: &str = "../crates/replies/src/lib.rt";
 const HEADER: &str = "../include/kv.h";
-const CRATE: &str = "src/boundary.rs";
+const DECLARATIONS: &str = "kv-sys/src/lib.rs";
 
 /// A name and a type, of a parameter or a field.
 type Named = (String, String);
@@ -93,11 +95,16 @@ fn of_source(text: &str) -> Signatures {
         .collect()
 }
 
-/// What this crate declares.
-fn of_crate(text: &str) -> Signatures {
+/// The declarations of `kv-sys`, each in one line.
+fn rust_lines(text: &str) -> Vec<String> {
     let plain = without(text, "//", "\n");
-    let block = between(&plain, "unsafe extern \"C\" {", "\n}");
-    let parts = block.split(';').filter_map(|part| part.split_once("fn "));
+    listed(between(&plain, "unsafe extern \"C\" {", "\n}"), ';')
+}
+
+/// What `kv-sys` declares.
+fn of_rust(text: &str) -> Signatures {
+    let lines = rust_lines(text);
+    let parts = lines.iter().filter_map(|line| line.split_once("fn "));
     parts.map(|(_, part)| arrow_signature(part)).collect()
 }
 
@@ -153,9 +160,9 @@ const C: Language = Language {
 
 const RUST: Language = Language {
     plain: str::to_owned,
-    place: |kind, written| format!("{}{kind}", if written { "&mut " } else { "&" }),
+    place: rust_pointer,
     record: "Record",
-    slice: |_, of, written| format!("{}{of}", if written { "*mut " } else { "*const " }),
+    slice: |_, of, written| rust_pointer(of, written),
     length: "usize",
 };
 
@@ -174,6 +181,10 @@ fn c_type(kind: &str) -> String {
 
 fn c_pointer(kind: &str, written: bool) -> String {
     format!("{}{kind} *", if written { "" } else { "const " })
+}
+
+fn rust_pointer(kind: &str, written: bool) -> String {
+    format!("{}{kind}", if written { "*mut " } else { "*const " })
 }
 
 impl Language {
@@ -223,9 +234,61 @@ fn header_declares_what_the_source_does() {
 }
 
 #[test]
-fn crate_declares_what_the_source_does() {
+fn rust_declares_what_the_source_does() {
     let source = of_source(&read(SOURCE));
-    assert_eq!(of_crate(&read(CRATE)), RUST.wanted(&source));
+    assert_eq!(of_rust(&read(DECLARATIONS)), RUST.wanted(&source));
+}
+
+#[test]
+fn functions_of_numbers_alone_are_safe() {
+    let (safe, others): (Vec<_>, Vec<_>) = rust_lines(&read(DECLARATIONS))
+        .into_iter()
+        .partition(|line| line.starts_with("pub safe fn "));
+    assert!(
+        safe.iter().all(|line| !line.contains(['*', '&'])),
+        "{safe:?}"
+    );
+    assert!(others.iter().all(|line| line.contains('*')), "{others:?}");
+}
+
+/// Every file under a folder of the project.
+fn files(folder: &Path) -> Vec<PathBuf> {
+    let entries =
+        fs::read_dir(folder).unwrap_or_else(|fault| panic!("{}: {fault}", folder.display()));
+    let paths = entries.map(|entry| entry.expect("an entry").path());
+    paths
+        .flat_map(|path| {
+            if path.is_dir() {
+                files(&path)
+            } else {
+                vec![path]
+            }
+        })
+        .collect()
+}
+
+#[test]
+fn rust_declares_in_one_place() {
+    for folder in [
+        "src",
+        "kv-sys/src",
+        "../oracle/src",
+        "../kvasm/src",
+        "../fuzz/src",
+    ] {
+        let here = Path::new(env!("CARGO_MANIFEST_DIR"));
+        for path in files(&here.join(folder)) {
+            let declares = fs::read_to_string(&path)
+                .expect("a text")
+                .contains("fn kv_");
+            assert_eq!(
+                declares,
+                path == here.join(DECLARATIONS),
+                "{}",
+                path.display()
+            );
+        }
+    }
 }
 
 /// A text with one place changed.
@@ -251,7 +314,7 @@ fn drift_of_the_header_is_seen() {
 }
 
 #[test]
-fn drift_of_the_crate_is_seen() {
+fn drift_of_the_rust_is_seen() {
     for drift in [
         (
             "keys: *const u32,\n        keys_len: usize,",
@@ -259,11 +322,14 @@ fn drift_of_the_crate_is_seen() {
         ),
         ("t: u32,\n    ) -> u32", "t: u32,\n    ) -> u64"),
         ("query: *const f32", "query: *const u32"),
-        ("rec: &Record", "rec: &mut Record"),
+        ("rec: *const Record", "rec: *mut Record"),
+        ("rec: *mut Record,", "rec: &mut Record,"),
+        ("cells: *mut usize", "cells: *mut u32"),
         ("code: u8", "code: u32"),
-        ("fn kv_advance(rec: &mut Record, count: u32) -> u32;", ";"),
+        ("fn kv_advance(rec: *mut Record, count: u32) -> u32;", ";"),
+        ("scale: f32,\n        dst: *mut u8,", "dst: *mut u8,"),
     ] {
-        let mine = of_crate(&drifted(&read(CRATE), drift));
+        let mine = of_rust(&drifted(&read(DECLARATIONS), drift));
         assert_ne!(mine, RUST.wanted(&of_source(&read(SOURCE))), "{drift:?}");
     }
 }
@@ -275,7 +341,7 @@ fn record_has_the_same_fields() {
         .iter()
         .map(|field| c_named(field))
         .collect();
-    let text = read(CRATE);
+    let text = read(DECLARATIONS);
     let inside = between(&text, "pub struct Record {", "\n}").replace("pub ", "");
     let said: Vec<Named> = listed(&inside, ',')
         .iter()

@@ -2,8 +2,8 @@
 mod common;
 
 use common::desk::{token, Desk};
-use common::dice::Dice;
-use common::{row_size, shape, with, FIELDS, FORMATS, REFUSALS, SIDES};
+use common::{numbers, row_size, shape, with, FIELDS, FORMATS, REFUSALS, SIDES};
+use dice::Dice;
 use karonjeenu::{Format, Refusal, Side, Store};
 use std::collections::BTreeSet;
 
@@ -17,7 +17,7 @@ fn filled(format: Format) -> Store {
     let mut desk = Desk::open(shape(format));
     let mut dice = Dice::new(40);
     for _ in 0..LENGTH {
-        desk.put(token(&mut dice, shape(format), Dice::plains));
+        desk.put(token(&mut dice, shape(format), numbers::plains));
     }
     desk.store
 }

@@ -2,8 +2,8 @@
 mod common;
 
 use common::desk::{token, Desk};
-use common::dice::Dice;
-use common::{bits, row_size, scores, shape};
+use common::{bits, numbers, row_size, scores, shape};
+use dice::Dice;
 use karonjeenu::{Format, Store};
 use std::thread;
 
@@ -15,9 +15,9 @@ fn threads_that_read_one_store_get_the_same_bits() {
     let mut dice = Dice::new(30);
     let mut desk = Desk::open(shape);
     for _ in 0..shape.capacity {
-        desk.put(token(&mut dice, shape, Dice::plains));
+        desk.put(token(&mut dice, shape, numbers::plains));
     }
-    let query = dice.plains(shape.head_size);
+    let query = numbers::plains(&mut dice, shape.head_size);
     moves_and_is_shared(&desk.store);
     let ask = || bits(&scores(&desk.store, 0, 1, &query, 0.5));
     let wanted = ask();

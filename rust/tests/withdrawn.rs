@@ -2,8 +2,8 @@
 mod common;
 
 use common::desk::{token, Desk};
-use common::dice::Dice;
-use common::{bits, rows, scores, shape, softmax, sums, FORMATS, SIDES};
+use common::{bits, numbers, rows, scores, shape, softmax, sums, FORMATS, SIDES};
+use dice::Dice;
 use karonjeenu::Format;
 
 const HEADING: usize = 3;
@@ -13,7 +13,7 @@ const PARAGRAPH: usize = 5;
 fn put(desk: &mut Desk, seed: u64, count: usize) {
     let mut dice = Dice::new(seed);
     for _ in 0..count {
-        desk.put(token(&mut dice, desk.store.shape(), Dice::plains));
+        desk.put(token(&mut dice, desk.store.shape(), numbers::plains));
     }
 }
 
@@ -29,7 +29,7 @@ fn desks(format: Format) -> (Desk, Desk) {
 /// The bits of everything that can be asked of a layer: each row, and where they are there, all scores and the sums.
 fn answers(desk: &Desk, layer: usize) -> Vec<Vec<u32>> {
     let shape = desk.store.shape();
-    let query = Dice::new(12).plains(shape.head_size);
+    let query = numbers::plains(&mut Dice::new(12), shape.head_size);
     let mut answers = Vec::new();
     for head in 0..shape.heads {
         for side in SIDES {
@@ -92,8 +92,10 @@ fn paragraph_moves_bits_before_it_is_withdrawn() {
         );
     }
     for format in [Format::F32, Format::Int4] {
-        let ((one, mut other), query) =
-            (desks(format), Dice::new(12).plains(shape(format).head_size));
+        let ((one, mut other), query) = (
+            desks(format),
+            numbers::plains(&mut Dice::new(12), shape(format).head_size),
+        );
         // The same number of tokens of another paragraph: as many scores, and other ones.
         put(&mut other, 14, PARAGRAPH);
         let scored = [&one, &other].map(|desk| scores(&desk.store, 0, 0, &query, 0.25));

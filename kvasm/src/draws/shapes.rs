@@ -47,12 +47,17 @@ fn drawn(most: [u16; 4], dice: &mut Dice) -> Shape {
     let format = dice.below(4) as u8;
     let mut sizes = most.map(|most| match dice.below(8) {
         0 => most,
-        _ => dice.up_to(most),
+        _ => up_to(most, dice),
     });
     if format == INT4 {
-        sizes[2] = 32 * dice.up_to((most[2] / 32).max(1));
+        sizes[2] = 32 * up_to((most[2] / 32).max(1), dice);
     }
     Shape::new(format, sizes)
+}
+
+/// A random size from 1 to `most`.
+fn up_to(most: u16, dice: &mut Dice) -> u16 {
+    1 + dice.below(most.into()) as u16
 }
 
 /// A shape with as many positions as there is room for.
@@ -86,7 +91,7 @@ fn edge(more: u32, dice: &mut Dice) -> Shape {
         3 => {
             // With so few numbers to a head the cell bytes are enough.
             let [layers, heads, _, capacity] = sizes_of(1024 + more, [128, 64, 1, 4096], dice);
-            Shape::new(INT8, [layers, heads, dice.up_to(15), capacity])
+            Shape::new(INT8, [layers, heads, up_to(15, dice), capacity])
         }
         _ => {
             let [layers, heads, groups, capacity] = sizes_of(1024 + more, [128, 64, 8, 4096], dice);

@@ -1,6 +1,6 @@
 //! A drafting desk: a document, what was withdrawn from it, and the store that follows both.
-use super::dice::Dice;
 use super::row_size;
+use dice::Dice;
 use karonjeenu::{Shape, Store};
 use std::slice;
 

@@ -1,7 +1,7 @@
 //! What several tests share: shapes, comparisons, random numbers, a desk, and the paper's rules computed plainly.
 #![allow(dead_code)] // Each test file uses a part of it.
 pub mod desk;
-pub mod dice;
+pub mod numbers;
 pub mod paper;
 
 use karonjeenu::{Format, Refusal, Shape, Side, Store};
