@@ -1,5 +1,5 @@
 /*
- * Karonjeenu: a key/value cache whose undo is proved. Link target/staticlib/libhost.a, made by `rt staticlib host`.
+ * Karonjeenu: a key/value cache whose undo is proved. Link target/staticlib/TARGET/libhost.a, made by `tools/archive`.
  *
  * Every call ends, whatever it is lent. One that can refuse answers a reply: 0, or the lowest number that applies, and
  * then it has changed nothing save what its own line below says. The caller sees to four things that no callee can see:
