@@ -3,6 +3,7 @@ mod Halves
 pub mod KindLaws
 mod Largest
 mod Patterns
+mod Quotients
 pub mod Reading
 mod Rounding
 pub mod RunLaws

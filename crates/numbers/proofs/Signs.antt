@@ -1,14 +1,12 @@
--- A word without its sign stands for the same magnitude, so the sign and the clamped magnitude give the clamped number. A NaN gives what 0.0 gives.
+-- A word without its sign stands for the same magnitude, so the sign and the clamped magnitude give the clamped number.
 use mathlib.Core.Path.{_≡_, refl}
 use Prim.Native.Nat.{ℕ, zero, suc, _+_, _-_, _%_, _≤_, min}
-use native.Mathlib.Nat.{zero-min, zero-add}
+use native.Mathlib.Nat.{zero-add}
 use native.Mathlib.Omega.{arith}
-use mathlib.Core.Bool.{Bool, true, false, not, cond}
+use mathlib.Core.Bool.{Bool, true, false, cond}
 use lib.IntN.{pos, negℤ}
-use lib.Dec.{T, leb, ltb}
-use lib.Ieee.{Float, nan, inf, fin, binary32, isNan, ofBits, fits}
-use lib.Ieee.Bits.{ofBits-fits}
-use lib.Ieee.Fits.{cond-fits}
+use lib.Dec.{leb, ltb}
+use lib.Ieee.{Float, nan, inf, fin}
 use borrow.Author.Tests.{le-leb, lt-leb, ltb-true, ltb-false}
 use Rattle.numbers.specs.Word.{float}
 use Rattle.numbers.specs.Code.{nearestWhole, clamped, above}
@@ -44,22 +42,3 @@ module _ (low high base : ℕ) where
 
   pub clamped-down : (b : ℕ) → ltb b 2147483648 ≡ false → above base (clamped low high (float b)) ≡ base - counts low (float (b % 2147483648))
   clamped-down b t = rw (le-leb 2147483648 b (ltb-false b 2147483648 t)) at (clamped-at b)
-
--- a quotient, and 0.0 for a NaN
-abbrev pub number : Float → Float
-number q = cond (isNan q) (float 0) q
-
-pub number-no-nan : (q : Float) → T (not (isNan (number q)))
-unfolding isNan ofBits
-number-no-nan nan = tt
-number-no-nan (inf s) = tt
-number-no-nan (fin s m e) = tt
-
-pub number-fits : (q : Float) → T (fits binary32 q) → T (fits binary32 (number q))
-number-fits q = cond-fits binary32 (isNan q) (float 0) q (ofBits-fits binary32 0)
-
-pub number-clamped : (low high : ℕ) (q : Float) → clamped low high (number q) ≡ clamped low high q
-unfolding clamped nearestWhole isNan ofBits
-number-clamped low high nan = rw zero-min
-number-clamped low high (inf s) = refl
-number-clamped low high (fin s m e) = refl

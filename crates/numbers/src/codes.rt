@@ -3,7 +3,7 @@ use crate::words::word_to_f32;
 ghost use mathlib.Core.Path.{_≡_};
 ghost use Prim.Native.Nat.{_≤_};
 ghost use mathlib.Core.Bool.{cond};
-ghost use lib.Ieee.{binary32, div, isNan, lt};
+ghost use lib.Ieee.{binary32, div, lt};
 ghost use Rattle.numbers.specs.Word.{float};
 ghost use Rattle.numbers.specs.Code.{clamped, above, code8, code4, read8, less8, read4};
 
@@ -25,23 +25,19 @@ fn nearest_whole(bits: u32, most: u16) -> u32
     if x == n as f32 + 0.5 { n + 1 } else { n }
 }
 
-// A quotient, and 0.0 for a NaN.
-fn number_of(q: f32) -> f32
-    ensures { λ r. ⌜ r ≡ cond (isNan q) (float 0) q ⌝ }
-{
-    if q != q { 0.0 } else { q }
-}
-
 // What `zero` becomes when the number's quotient by the scale, rounded and clamped to -low .. high, is added.
 fn quantize(x: u32, scale: f32, low: u16, high: u16, zero: u32) -> u32
-    requires { ⌜ (low ≤ 128) × (high ≤ 128) × (low ≤ zero) × (zero ≤ 256) ⌝ }
+    requires { ⌜ (low ≤ 128) × (high ≤ low) × (low ≤ zero) × (zero ≤ 256) ⌝ }
     ensures { λ r. ⌜ r ≡ above zero (clamped low high (div binary32 (float x) scale)) ⌝ }
 {
-    let bits = f32::to_bits(number_of(word_to_f32(x) / scale));
+    let q = word_to_f32(x) / scale;
+    // A NaN is below nothing, so this is a number, and what it counts for a NaN is dropped at the end.
+    let bits = f32::to_bits(smaller(q, high as f32));
     let positive = bits < 0x8000_0000;
-    let most = if positive { high } else { low };
-    let n = nearest_whole(bits % 0x8000_0000, most);
-    if positive { zero + n } else { zero - n }
+    // The end for either sign: what is positive is at most `high` already.
+    let n = nearest_whole(bits % 0x8000_0000, low);
+    let m = if q != q { 0 } else { n };
+    if positive { zero + m } else { zero - m }
 }
 
 // The INT8 code of a number. The Rust's `quantize_i8`.
