@@ -73,7 +73,7 @@ fn measured(folder: Option<&Path>) -> Result<(), String> {
         return Ok(());
     };
     let drawing = plot::drawing(&table, &grid, &machine::line());
-    let file = folder.join(drawing_name(machine::ARCHIVE));
+    let file = folder.join(drawing_name(crate::ARCHIVE));
     fs::write(&file, drawing).map_err(|error| told(&file, error))
 }
 

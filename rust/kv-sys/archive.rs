@@ -1,7 +1,17 @@
 //! Which archive a build links, by cargo's own words for what it is built for.
 
 /// What a processor has to have for `x86-64-v3`, of those words.
-const V3: [&str; 7] = ["avx2", "bmi1", "bmi2", "f16c", "fma", "lzcnt", "movbe"];
+const V3: [&str; 9] = [
+    "avx2",
+    "bmi1",
+    "bmi2",
+    "cmpxchg16b",
+    "f16c",
+    "fma",
+    "lzcnt",
+    "movbe",
+    "popcnt",
+];
 
 /// The name of the archive for an architecture, a system and a list of features with commas, where there is one.
 pub fn archive_for(arch: &str, os: &str, features: &str) -> Option<&'static str> {

@@ -240,6 +240,34 @@ fn rust_declares_what_the_source_does() {
 }
 
 #[test]
+fn rust_lays_out_and_links_by_the_names_alone() {
+    // `derive` and the declarations' own words change neither layout nor symbol; another attribute might.
+    let attributes = |text: &str| {
+        let plain = without(text, "//", "\n");
+        let record = between(&plain, "const MOST_LAYERS", "pub struct Record").to_owned();
+        let inside = between(&plain, "unsafe extern \"C\" {", "\n}").matches('#');
+        (
+            record.matches("#[repr(C)]").count(),
+            record.matches("#[").count(),
+            inside.count(),
+        )
+    };
+    let text = read(DECLARATIONS);
+    let wanted = attributes(&text);
+    assert_eq!(wanted, (1, 2, 0));
+    for drift in [
+        ("#[repr(C)]\n", ""),
+        ("#[repr(C)]\n", "#[repr(C)]\n#[repr(packed)]\n"),
+        (
+            "    pub fn kv_open(",
+            "    #[link_name = \"kv_append\"]\n    pub fn kv_open(",
+        ),
+    ] {
+        assert_ne!(attributes(&drifted(&text, drift)), wanted, "{drift:?}");
+    }
+}
+
+#[test]
 fn functions_of_numbers_alone_are_safe() {
     let (safe, others): (Vec<_>, Vec<_>) = rust_lines(&read(DECLARATIONS))
         .into_iter()

@@ -1,11 +1,6 @@
 //! What is measured, and what on.
+use crate::ARCHIVE;
 use std::{fs, thread};
-
-/// The target that the linked archive was made for.
-pub const ARCHIVE: &str = match option_env!("ORACLE_ARCHIVE") {
-    Some(archive) => archive,
-    None => "unknown",
-};
 
 /// The processors of Arm's own that are met most, by their part.
 const ARM: &[(&str, &str)] = &[

@@ -6,8 +6,17 @@ use archive::archive_for;
 
 /// What cargo lists for `x86-64`, and what it adds for `x86-64-v3`.
 const X86: &str = "fxsr,sse,sse2,x87";
-const V3: [&str; 8] = [
-    "avx", "avx2", "bmi1", "bmi2", "f16c", "fma", "lzcnt", "movbe",
+const V3: [&str; 10] = [
+    "avx",
+    "avx2",
+    "bmi1",
+    "bmi2",
+    "cmpxchg16b",
+    "f16c",
+    "fma",
+    "lzcnt",
+    "movbe",
+    "popcnt",
 ];
 
 /// The features of an x86-64 that has those of v3 that are kept.
