@@ -1,4 +1,6 @@
 // Calls in the room at hand, from which a shape is lent exactly its need: the paper's section Call file.
+#![tactic(auto)]
+
 ghost use Rattle.std.specs.Prelude.{◌≡◌, ◌≤◌, min};
 ghost use Rattle.shapes.specs.Buffers.{buffers};
 ghost use Rattle.store.specs.Calls.{store, changed_store};

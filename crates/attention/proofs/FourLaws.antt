@@ -14,8 +14,8 @@ use Rattle.shapes.specs.Buffers.{buffers}
 use Rattle.rows.proofs.FitLaws.{fits_facts}
 use Rattle.attention.specs.Order.{Scoring, scoring_of, row_dot, scores_of}
 use Rattle.attention.specs.Block.{scores_of_block}
-use Rattle.attention.specs.Fits.{ScoredRows, IsF32, IsInt8, IsInt4}
-use Rattle.attention.proofs.ScoringLaws.{f32_row, int8_row, int4_row}
+use Rattle.attention.specs.Fits.{ScoredRows, IsF32, IsInt4}
+use Rattle.attention.proofs.ScoringLaws.{f32_row, int4_row}
 use Rattle.attention.proofs.PartLaws.{part_rows}
 
 -- row i of four, as one row of a part
@@ -42,10 +42,6 @@ module _ (format : ℕ) (query : List Float) (cells scales : List ℕ) where
 
     pub quarter_f32 : (i : ℕ) (r : List ℕ) → i < 4 → format ≡ 0 → r ≡ quarter i cells → IsF32 (length query) (length r)
     quarter_f32 i r b f e = f32_row format _ _ _ (row i b e refl) f
-
-    pub quarter_int8 : (i : ℕ) (r w : List ℕ) → i < 4 → format ≡ 2 → r ≡ quarter i cells → w ≡ quarter i scales
-        → IsInt8 (length query) (length r) (length w)
-    quarter_int8 i r w b n e q = int8_row format _ _ _ (row i b e q) n
 
     pub quarter_int4 : (i : ℕ) (r w : List ℕ) → i < 4 → format ≡ 3 → r ≡ quarter i cells → w ≡ quarter i scales
         → IsInt4 (length query) (length r) (length w)

@@ -12,12 +12,9 @@ ScoredRows format d m cells scales = (has_scores_of format ≡ true) × (rows_fi
 abbrev pub SizedRows : ℕ → ℕ → ℕ → ℕ → ℕ → ℕ → ℕ → Type 0
 SizedRows format d m c w cells scales = ScoredRows format d m cells scales × (c ≡ cell_bytes_of format d) × (w ≡ scale_words_of format d)
 
--- a row of d numbers in F32, in INT8, and in INT4
+-- a row of d numbers in F32, and in INT4
 abbrev pub IsF32 : ℕ → ℕ → Type 0
 IsF32 d cells = cells ≡ d * 4
-
-abbrev pub IsInt8 : ℕ → ℕ → ℕ → Type 0
-IsInt8 d cells scales = (cells ≡ d) × (scales ≡ 1)
 
 abbrev pub IsInt4 : ℕ → ℕ → ℕ → Type 0
 IsInt4 d cells scales = (d ≡ scales * 32) × (cells ≡ scales * 16)

@@ -5,7 +5,7 @@ use Rattle.std.specs.Float.{nan, binary32}
 use Rattle.std.specs.Float.Ieee.{add, mul}
 use Rattle.lists.specs.Chunks.{tab, turns, part}
 use Rattle.numbers.specs.Word.{float, word}
-use Rattle.numbers.specs.Code.{signed8, less8, read8}
+use Rattle.numbers.specs.Code.{less8}
 use Rattle.groups.specs.Group.{code_at}
 use Rattle.rows.specs.Row.{f32_at}
 
@@ -17,24 +17,16 @@ summed n term = turns n (λ i sum. add binary32 sum (term i)) (float 0)
 unfoldable pub f32_dot : List Float → List ℕ → Float
 f32_dot query cells = summed (length query) (λ d. mul binary32 (get_or query d nan) (float (f32_at cells d)))
 
--- a code in a running sum: the query's number i times the code is added
-abbrev pub add_product : List Float → ℕ → Float → Float → Float
-add_product query i code sum = add binary32 sum (mul binary32 (get_or query i nan) code)
-
--- INT8: the codes for d rising, from 0.0; their sum times the row's scale
-abbrev pub add_code : List Float → List ℕ → ℕ → Float → Float
-add_code query cells d = add_product query d (signed8 (get_or cells d 0))
-
-unfoldable pub int8_dot : List Float → List ℕ → List ℕ → Float
-int8_dot query cells scales = mul binary32 (turns (length query) (add_code query cells) (float 0)) (float (get_or scales 0 0))
-
 -- INT4: the code of a byte less 8, the low one at bit 0, the high one at bit 4
 abbrev pub code_from : ℕ → List ℕ → ℕ → Float
 code_from k bytes i = less8 (code_at k bytes i)
 
 -- one byte of a group: the query's number i times the low code is added, then its number i + 16 times the high one
 abbrev pub add_byte : List Float → List ℕ → ℕ → Float → Float
-add_byte query bytes i sum = add_product query (i + 16) (code_from 4 bytes i) (add_product query i (code_from 0 bytes i) sum)
+add_byte query bytes i sum =
+    add binary32
+    (add binary32 sum (mul binary32 (get_or query i nan) (code_from 0 bytes i)))
+    (mul binary32 (get_or query (i + 16) nan) (code_from 4 bytes i))
 
 -- a group: bytes 0 to 15, from 0.0
 unfoldable pub group_dot : List Float → List ℕ → Float
@@ -49,10 +41,6 @@ int4_dot query cells scales =
 -- F32: the weight times the row's number i
 abbrev pub f32_term : Float → List ℕ → ℕ → Float
 f32_term weight cells i = mul binary32 weight (float (f32_at cells i))
-
--- INT8: the code times the row's scale first, which is the number that it reads as; then the weight times that
-abbrev pub int8_term : Float → List ℕ → List ℕ → ℕ → Float
-int8_term weight cells scales i = mul binary32 weight (read8 (get_or cells i 0) (float (get_or scales 0 0)))
 
 -- INT4: the weight times the group scale first, then times the code less 8; number i is number i % 32 of group i / 32
 abbrev pub group_code : List ℕ → ℕ → Float
@@ -71,9 +59,6 @@ pub record Scoring : Type 0 where
 abbrev pub f32_scoring : Scoring
 f32_scoring = record { scored = true; dot = λ query cells scales. f32_dot query cells; term = λ weight cells scales. f32_term weight cells }
 
-abbrev pub int8_scoring : Scoring
-int8_scoring = record { scored = true; dot = int8_dot; term = int8_term }
-
 abbrev pub int4_scoring : Scoring
 int4_scoring = record { scored = true; dot = int4_dot; term = int4_term }
 
@@ -81,9 +66,9 @@ int4_scoring = record { scored = true; dot = int4_dot; term = int4_term }
 abbrev pub no_scoring : Scoring
 no_scoring = record { scored = false; dot = λ query cells scales. float 0; term = λ weight cells scales i. float 0 }
 
--- the table: a format's number is its place; BF16 has none
+-- the table: a format's number is its place; BF16 and INT8 have none
 unfoldable pub scorings : List Scoring
-scorings = f32_scoring ∷ no_scoring ∷ int8_scoring ∷ int4_scoring ∷ []
+scorings = f32_scoring ∷ no_scoring ∷ no_scoring ∷ int4_scoring ∷ []
 
 abbrev pub scoring_of : ℕ → Scoring
 scoring_of format = get_or scorings format no_scoring

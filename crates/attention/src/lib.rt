@@ -1,4 +1,6 @@
 // Attention: what the scores and sums of the first positions of a head's block are, and which blocks have some.
+#![tactic(auto)]
+
 ghost use Rattle.std.specs.Prelude.{◌≡◌};
 ghost use Rattle.attention.specs.Order.{has_scores_of};
 ghost use Rattle.attention.specs.Block.{block_fits_of};
@@ -12,7 +14,7 @@ pub fn has_scores(format: u32) -> bool
     match format {
         0 => true,
         1 => false,
-        2 => true,
+        2 => false,
         3 => true,
         _ => false,
     }

@@ -1,4 +1,6 @@
 // Buffers: rows of numbers in both buffers, appended to a layer and removed from it. The caller says how many positions the layer has.
+#![tactic(auto)]
+
 ghost use Rattle.std.specs.Prelude.{◌≡◌, ◌&&◌, ◌*◌, min, length, replicate};
 ghost use Rattle.lists.specs.Chunks.{joined};
 ghost use Rattle.replies.specs.Tried.{tells};

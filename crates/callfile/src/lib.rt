@@ -1,4 +1,6 @@
 // A call file: what stands at each of its places, and a reader that walks it. The paper's section Call file.
+#![tactic(auto)]
+
 ghost use Rattle.std.specs.Prelude.{◌≡◌, ◌+◌, ◌≤◌, length};
 ghost use Rattle.callfile.specs.Format.{open_at, append_at_of, truncate_at_of, advance_at_of, kind_at, entry_at_of, size_of, words_read};
 
@@ -8,7 +10,7 @@ mod little;
 pub mod reader;
 
 // What stands at a place: a record of one of the five kinds with its fields, the end of the file, or no record.
-#[derive(Drop)]
+#[derive(Clone, Copy)]
 pub enum Entry {
     Open { shape: Shape },
     // `n` keys and as many values follow the fields.

@@ -1,4 +1,6 @@
 // Decode: one head's numbers at one position, read from cells and scale words, in each format.
+#![tactic(auto)]
+
 ghost use Rattle.std.specs.Prelude.{◌≡◌, cond, [], ◌∷◌, ◌+◌, ◌*◌, eqb, length};
 ghost use Rattle.lists.specs.Bytes.{from_little};
 ghost use Rattle.rows.specs.Row.{f32_numbers, bf16_numbers, int8_numbers, int4_numbers};

@@ -1,4 +1,6 @@
 // Encode: one head's numbers at one position, written as cells and scale words, in each format.
+#![tactic(auto)]
+
 ghost use Rattle.std.specs.Prelude.{◌≡◌, ◌*◌, ◌≤◌, length};
 ghost use Rattle.numbers.specs.Word.{word};
 ghost use Rattle.numbers.specs.Scale.{scale_of};

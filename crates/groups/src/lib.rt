@@ -1,4 +1,6 @@
 // Groups: 32 numbers to and from 16 bytes, number i beside number i + 16. Numbers come and go as words of 32 bits.
+#![tactic(auto)]
+
 ghost use Rattle.std.specs.Prelude.{◌≡◌, ◌++◌, ◌≤◌, length, drop};
 ghost use Rattle.replies.specs.Reply.{reply_number};
 ghost use Rattle.groups.specs.Group.{packed, half, unpacked, holds, group_reply, pack_into, unpack_into};

@@ -1,4 +1,6 @@
 // Heads: scores and weighted sums over a stored head. The Rust's `decode_head_attention_f32` and `decode_head_attention_int4`, cut at the softmax.
+#![tactic(auto)]
+
 ghost use Rattle.std.specs.Prelude.{◌≡◌, ◌++◌};
 ghost use Rattle.replies.specs.Reply.{reply_number};
 ghost use Rattle.replies.specs.Outcome.{lowest, answered};

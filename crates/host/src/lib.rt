@@ -1,4 +1,6 @@
 // The C boundary: numbers and slices in, the paper's numbers out. A slice is a pointer and then a length.
+#![tactic(auto)]
+
 pub(crate) mod records;
 
 ghost use Rattle.std.specs.Prelude.{◌≡◌};

@@ -1,4 +1,6 @@
 // Plays the call file on standard input, and prints a line for each record.
+#![tactic(auto)]
+
 use libc::STDOUT_FILENO;
 
 fn main() {

@@ -8,7 +8,7 @@ use lib.Ieee.Bits.{to_bits-of_bits, nan_bits_is}
 use lib.Ieee.Exact.{HasValue, round_exact}
 use lib.Ieee.Fits.{up_pos, down_pos}
 use Rattle.numbers.specs.Word.{float, word}
-use Rattle.numbers.specs.Code.{clamped, signed8, read8, less8, read4}
+use Rattle.numbers.specs.Code.{clamped, read8, less8, read4}
 use Rattle.numbers.specs.Kind.{ZeroWord, InfWord, BlankWord, AboveZero, BelowZero}
 use Rattle.numbers.proofs.ValueLaws.{clamped_value}
 use Rattle.numbers.proofs.Patterns.{signed, bare, with_sign, without_sign, above_infinity, up_to_infinity}
@@ -104,7 +104,7 @@ module _ (low high : ℕ) where
 
 -- the code of 0, under an infinite scale, reads as a NaN
 pub infinite_read8 : (s : Bool) → read8 0 (inf s) ≡ nan
-unfolding read8 signed8 mul of_int
+unfolding read8 mul of_int
 infinite_read8 s = refl
 
 pub infinite_read4 : (s : Bool) → read4 8 (inf s) ≡ nan

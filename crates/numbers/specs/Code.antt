@@ -29,12 +29,9 @@ code8 w scale = of_z w8 (clamped 127 127 (div binary32 (float w) scale))
 unfoldable pub code4 : ℕ → Float → ℕ
 code4 w scale = above 8 (clamped 8 7 (div binary32 (float w) scale))
 
--- a stored INT8 byte as the code that it is in two's complement, and read: code × scale, rounded once
-unfoldable pub signed8 : ℕ → Float
-signed8 code = whole (to_z w8 code)
-
+-- a stored INT8 byte read: code × scale, rounded once
 unfoldable pub read8 : ℕ → Float → Float
-read8 code scale = mul binary32 (signed8 code) scale
+read8 code scale = mul binary32 (whole (to_z w8 code)) scale
 
 -- a stored INT4 code less 8, and read: (code − 8) × scale, rounded once
 unfoldable pub less8 : ℕ → Float

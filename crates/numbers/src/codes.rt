@@ -3,7 +3,7 @@ ghost use Rattle.std.specs.Prelude.{◌≡◌, ◌≤◌, if◌then◌else◌};
 ghost use Rattle.std.specs.Float.{binary32};
 ghost use Rattle.std.specs.Float.Ieee.{div, lt};
 ghost use Rattle.numbers.specs.Word.{float};
-ghost use Rattle.numbers.specs.Code.{clamped, above, code8, code4, signed8, read8, less8, read4};
+ghost use Rattle.numbers.specs.Code.{clamped, above, code8, code4, read8, less8, read4};
 
 use crate::words::word_to_f32;
 
@@ -54,20 +54,12 @@ pub fn quantize_i4(x: u32, scale: f32) -> u8
     (quantize(x, scale, 8, 7, 8) % 256) as u8
 }
 
-// The number that a stored INT8 byte stands for under the scale 1.0.
-pub fn signed_8(code: u8) -> f32
-    ensures { result ≡ signed8 code }
-{
-    // At 32 bits, and less 128 before it is a float: the back end makes one signed extension of it.
-    let raised = (code as u32 + 128) % 256;
-    (raised as i32 - 128) as f32
-}
-
 // The number that a stored INT8 byte reads as.
 pub fn dequantize_i8(code: u8, scale: f32) -> f32
     ensures { result ≡ read8 code scale }
 {
-    signed_8(code) * scale
+    let raised = (code as u16 + 128) % 256;
+    (raised as f32 - 128.0) * scale
 }
 
 // The number that a stored INT4 code stands for under the scale 1.0.

@@ -1,11 +1,13 @@
 // Places: where the positions of a head's block lie in both buffers.
+#![tactic(auto)]
+
 ghost use Rattle.std.specs.Prelude.{◌≡◌};
 ghost use Rattle.places.specs.Span.{has_span_of, span_of};
 
 use shapes::{Shape, cell_bytes, in_limits, scale_words};
 
 // The offsets of some positions of a head's block in both buffers: where they begin and end.
-#[derive(Drop)]
+#[derive(Clone, Copy)]
 pub struct Span {
     pub cells_from: usize,
     pub cells_to: usize,

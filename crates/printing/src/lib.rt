@@ -1,4 +1,6 @@
 // The lines that a call file has printed, as bytes: the paper's section Call file.
+#![tactic(auto)]
+
 ghost use Rattle.std.specs.Prelude.{◌≡◌, ◌++◌, ◌+◌, ◌*◌, ◌≤◌, length, take, leb};
 ghost use Rattle.printing.specs.Place.{Placed};
 ghost use Rattle.printing.specs.Text.{decimal, spaced, answer_text_of, report_text_of, bad_text_of, laid_at};

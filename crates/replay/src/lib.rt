@@ -1,4 +1,6 @@
 // A call file played on a store in the room at hand, with everything that it prints: the paper's section Call file.
+#![tactic(auto)]
+
 mod lines;
 mod walk;
 
@@ -20,7 +22,7 @@ use store::{Changed, Record, advance_seq_len, memory_bytes, not_open};
 use walk::walk_file;
 
 // A line of output.
-#[derive(Drop)]
+#[derive(Clone, Copy)]
 pub(crate) enum Line {
     // `ok`, or `no` and the reply's number.
     Answer { reply: Reply },
@@ -33,14 +35,14 @@ pub(crate) enum Line {
 }
 
 // A line, and the record afterwards.
-#[derive(Drop)]
+#[derive(Clone, Copy)]
 pub(crate) struct Told {
     pub line: Line,
     pub after: Record,
 }
 
 // How far a file is played: its place, the bytes printed so far, and the record of the last store.
-#[derive(Drop)]
+#[derive(Clone, Copy)]
 pub struct Played {
     pub place: usize,
     pub count: usize,

@@ -1,8 +1,10 @@
 // The answer of a call, and the paper's number for it: the paper's section Replies.
+#![tactic(auto)]
+
 ghost use Rattle.std.specs.Prelude.{◌≡◌, cond, eqb};
 ghost use Rattle.replies.specs.Reply.{reply_number};
 
-#[derive(Drop)]
+#[derive(Clone, Copy)]
 pub enum Reply {
     Done,
     // The shape is outside the limits.

@@ -1,4 +1,6 @@
 // Rows: one head's numbers at one position, as cells and scale words, and what lengths such rows have.
+#![tactic(auto)]
+
 ghost use Rattle.std.specs.Prelude.{◌≡◌};
 ghost use Rattle.rows.specs.Fit.{rows_fit_of};
 

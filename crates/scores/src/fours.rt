@@ -10,11 +10,11 @@ ghost use Rattle.attention.specs.Block.{scores_of_block};
 ghost use Rattle.attention.specs.Fits.{ScoredRows, IsF32};
 
 use crate::rest::{cells_of, number_at, scales_of};
-use crate::words::{four_int4, four_int8};
+use crate::words::four_int4;
 use numbers::words::f32_to_word;
 
 // A number for each of four rows.
-#[derive(Drop)]
+#[derive(Clone, Copy)]
 pub(crate) struct Four {
     pub s0: f32,
     pub s1: f32,
@@ -39,7 +39,7 @@ pub(crate) fn score_four(
     let r1 = cells_of(cells, c, 1, 1);
     let r2 = cells_of(cells, c, 2, 1);
     let r3 = cells_of(cells, c, 3, 1);
-    // Past these tests, which the back end makes of a format that the caller names, it is INT4.
+    // One test of two ways, which the back end takes out of the loop over the fours; past it the format is INT4.
     if format == 0 {
         return four_f32(query, scale, r0, r1, r2, r3);
     }
@@ -48,9 +48,6 @@ pub(crate) fn score_four(
     let w1 = scales_of(scales, w, 1, 1);
     let w2 = scales_of(scales, w, 2, 1);
     let w3 = scales_of(scales, w, 3, 1);
-    if format == 2 {
-        return four_int8(query, scale, r0, r1, r2, r3, w0, w1, w2, w3);
-    }
     four_int4(query, scale, r0, r1, r2, r3, w0, w1, w2, w3)
 }
 

@@ -1,4 +1,6 @@
 // Scores: the first positions of one head's block under a query, in the Rust's order of float operations.
+#![tactic(auto)]
+
 pub(crate) mod fours;
 pub(crate) mod rest;
 pub(crate) mod words;
@@ -14,7 +16,7 @@ use fours::{put_four, score_four};
 use rest::{cells_of, scales_of, score_rest};
 use shapes::{cell_bytes, scale_words};
 
-// Scores as many positions as `out` has places, under a query, and answers whether what is lent is such a block. The first half of the Rust's `decode_head_attention_f32`, `decode_head_attention_int8` and `decode_head_attention_int4`.
+// Scores as many positions as `out` has places, under a query, and answers whether what is lent is such a block. The first half of the Rust's `decode_head_attention_f32` and `decode_head_attention_int4`.
 pub fn block_scores(
     format: u32,
     query: &[f32],
@@ -55,31 +57,8 @@ fn score_rows(format: u32, query: &[f32], scale: f32, cells: &[u8], scales: &[u3
     );
 }
 
-// Each format is named in a call of its own, of which the back end makes a loop.
-fn score_fours(
-    format: u32,
-    query: &[f32],
-    scale: f32,
-    c: usize,
-    w: usize,
-    cells: &[u8],
-    scales: &[u32],
-    out: &mut [u32],
-) -> usize
-    requires { SizedRows format (length query.now) (length out.old) c w (length cells.now) (length scales.now) }
-    ensures within { result ≤ length out.old }
-    ensures scored { out.new
-        ≡ scores_of_block format query.now scale (buffers cells.now scales.now) result ++ drop result out.old }
-{
-    match format {
-        0 => score_fours_in(0, query, scale, c, w, cells, scales, out),
-        2 => score_fours_in(2, query, scale, c, w, cells, scales, out),
-        _ => score_fours_in(3, query, scale, c, w, cells, scales, out),
-    }
-}
-
 // Scores four rows at a time while four are left, and answers how many rows it scored.
-fn score_fours_in(
+fn score_fours(
     format: u32,
     query: &[f32],
     scale: f32,

@@ -7,11 +7,11 @@ ghost use Rattle.numbers.specs.Word.{float};
 ghost use Rattle.shapes.specs.Buffers.{buffers};
 ghost use Rattle.rows.specs.Row.{f32_at};
 ghost use Rattle.attention.specs.Block.{scores_of_block};
-ghost use Rattle.attention.specs.Order.{f32_dot, int8_dot, group_dot, int4_dot, row_dot};
-ghost use Rattle.attention.specs.Fits.{ScoredRows, SizedRows, IsF32, IsInt8, IsInt4};
+ghost use Rattle.attention.specs.Order.{f32_dot, group_dot, int4_dot, row_dot};
+ghost use Rattle.attention.specs.Fits.{ScoredRows, SizedRows, IsF32, IsInt4};
 
 use decode::word_of;
-use numbers::codes::{less_8, signed_8};
+use numbers::codes::less_8;
 use numbers::words::{f32_to_word, word_to_f32};
 
 // Scores each row, where a row has `c` cells and `w` scale words.
@@ -62,7 +62,6 @@ fn score_row(format: u32, query: &[f32], scale: f32, cells: &[u8], scales: &[u32
 {
     match format {
         0 => score_f32(query, scale, cells),
-        2 => score_int8(query, scale, cells, scales),
         3 => score_int4(query, scale, cells, scales),
         _ => 0.0,
     }
@@ -79,20 +78,6 @@ fn score_f32(query: &[f32], scale: f32, cells: &[u8]) -> f32
         d += 1;
     }
     sum * scale
-}
-
-// The Rust's `dot_qf32_ki8`, times the given scale.
-fn score_int8(query: &[f32], scale: f32, cells: &[u8], scales: &[u32]) -> f32
-    requires { IsInt8 (length query.now) (length cells.now) (length scales.now) }
-    ensures { result ≡ mul binary32 (int8_dot query.now cells.now scales.now) scale }
-{
-    let mut sum = 0.0;
-    let mut d = 0;
-    while d < query.len() {
-        sum = sum + query[d] * signed_8(cells[d]);
-        d += 1;
-    }
-    sum * word_to_f32(scales[0]) * scale
 }
 
 // The Rust's `dot_qf32_ki4`, times the given scale.

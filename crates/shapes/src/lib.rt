@@ -1,4 +1,6 @@
 // Shapes: the limits of a store, and the cell bytes and scale words that it needs. The paper's section Shape and room.
+#![tactic(auto)]
+
 ghost use Rattle.std.specs.Prelude.{◌≡◌, true, ◌≤◌};
 ghost use Rattle.replies.specs.Reply.{reply_number};
 ghost use Rattle.replies.specs.Outcome.{lowest};
@@ -7,7 +9,7 @@ ghost use Rattle.shapes.specs.Shape.{cell_bytes_of, scale_words_of, total, cell_
 
 use replies::Reply;
 
-#[derive(Drop)]
+#[derive(Clone, Copy)]
 pub struct Shape {
     pub format: u32,
     pub layers: u32,
@@ -17,7 +19,7 @@ pub struct Shape {
 }
 
 // The lengths of the two buffers that a shape needs.
-#[derive(Drop)]
+#[derive(Clone, Copy)]
 pub struct Need {
     pub cells: usize,
     pub scales: usize,

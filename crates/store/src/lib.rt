@@ -1,4 +1,6 @@
 // The store: a cache of keys and values in lent buffers, with the record that says what it holds. The Rust's `KvStore`.
+#![tactic(auto)]
+
 ghost use Rattle.std.specs.Prelude.{◌≡◌, ◌++◌, true, ◌<◌, min, length};
 ghost use Rattle.replies.specs.Reply.{reply_number};
 ghost use Rattle.replies.specs.Outcome.{lowest, answered};
@@ -16,7 +18,7 @@ use replies::{Reply, first_of, number, refuse};
 use shapes::{Shape, cell_bytes, is_within, room_reply, scale_words};
 
 // A shape, the positions of each layer, and the sequence number that the host counts.
-#[derive(Drop)]
+#[derive(Clone, Copy)]
 pub struct Record {
     pub shape: Shape,
     pub lens: [u32; 128],
@@ -24,14 +26,14 @@ pub struct Record {
 }
 
 // A reply, and the record afterwards.
-#[derive(Drop)]
+#[derive(Clone, Copy)]
 pub struct Changed {
     pub reply: Reply,
     pub after: Record,
 }
 
 // A reply, and a count.
-#[derive(Drop)]
+#[derive(Clone, Copy)]
 pub struct Counted {
     pub reply: Reply,
     pub count: u64,

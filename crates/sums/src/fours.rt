@@ -125,7 +125,7 @@ fn add_plain(
 }
 
 // A sum so far, and the NaNs counted so far.
-#[derive(Drop)]
+#[derive(Clone, Copy)]
 struct Tally {
     sum: f32,
     nans: u32,

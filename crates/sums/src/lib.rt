@@ -1,4 +1,6 @@
 // Sums: the first positions of one head's block under weights, in the Rust's order of float operations.
+#![tactic(auto)]
+
 pub(crate) mod fours;
 pub(crate) mod rest;
 pub(crate) mod stored;
@@ -17,7 +19,7 @@ use fours::add_f32_rows;
 use numbers::words::f32_to_word;
 use rest::add_rest;
 
-// Sums as many positions as there are weights, and answers whether what is lent is such a block. The second half of the Rust's `decode_head_attention_f32`, `decode_head_attention_int8` and `decode_head_attention_int4`.
+// Sums as many positions as there are weights, and answers whether what is lent is such a block. The second half of the Rust's `decode_head_attention_f32` and `decode_head_attention_int4`.
 pub fn block_sums(
     format: u32,
     weights: &[f32],

@@ -4,12 +4,12 @@ ghost use Rattle.std.specs.Float.{binary32};
 ghost use Rattle.std.specs.Float.Ieee.{mul};
 ghost use Rattle.lists.specs.Chunks.{turns, part};
 ghost use Rattle.shapes.specs.Buffers.{buffers};
-ghost use Rattle.attention.specs.Order.{group_code, f32_term, int8_term, int4_term, row_term, added};
+ghost use Rattle.attention.specs.Order.{group_code, f32_term, int4_term, row_term, added};
 ghost use Rattle.attention.specs.Block.{block_term};
-ghost use Rattle.attention.specs.Fits.{ScoredRows, IsF32, IsInt8, IsInt4};
+ghost use Rattle.attention.specs.Fits.{ScoredRows, IsF32, IsInt4};
 
 use crate::stored::word_at;
-use numbers::codes::{dequantize_i8, less_8};
+use numbers::codes::less_8;
 use numbers::words::word_to_f32;
 use shapes::{cell_bytes, scale_words};
 
@@ -56,7 +56,6 @@ fn add_row(format: u32, weight: f32, cells: &[u8], scales: &[u32], out: &mut [f3
 {
     match format {
         0 => add_f32(weight, cells, out),
-        2 => add_int8(weight, cells, scales, out),
         3 => add_int4(weight, cells, scales, out),
         _ => {}
     }
@@ -69,19 +68,6 @@ fn add_f32(weight: f32, cells: &[u8], out: &mut [f32])
     let mut d = 0;
     while d < out.len() {
         out[d] = out[d] + weight * word_to_f32(word_at(cells, d));
-        d += 1;
-    }
-}
-
-// The Rust's terms by columns, which it has up to 64 positions: the code times the scale, and the weight times that.
-fn add_int8(weight: f32, cells: &[u8], scales: &[u32], out: &mut [f32])
-    requires { IsInt8 (length out.old) (length cells.now) (length scales.now) }
-    ensures { out.new ≡ added (int8_term weight cells.now scales.now) out.old }
-{
-    let scale = word_to_f32(scales[0]);
-    let mut d = 0;
-    while d < out.len() {
-        out[d] = out[d] + weight * dequantize_i8(cells[d], scale);
         d += 1;
     }
 }

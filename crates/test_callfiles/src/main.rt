@@ -1,5 +1,7 @@
 // Plays each call file that a line of standard input names, as kvcalls does, then tells where it was left and what the
 // last store reports.
+#![tactic(auto)]
+
 use libc::STDOUT_FILENO;
 use replay::{Played, play, report_line};
 

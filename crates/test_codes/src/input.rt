@@ -1,7 +1,7 @@
 // Runs of words in hex, as lines of text.
 
 // How many words a line has, and where the next line begins; `next` is 0 for a line that is no run.
-#[derive(Drop)]
+#[derive(Clone, Copy)]
 pub(crate) struct Line {
     pub count: usize,
     pub next: usize,

@@ -1,5 +1,7 @@
 // Codes runs of numbers and reads them back. Each line of standard input is a run of up to 64 words in hex; for each
 // run three lines tell its INT8 codes, its first INT4 group and its BF16 patterns, and what each reads as.
+#![tactic(auto)]
+
 use libc::STDOUT_FILENO;
 
 mod input;

@@ -3,7 +3,7 @@ use libc::STDOUT_FILENO;
 use numbers::{codes, scales, words};
 
 // What is shown of each number.
-#[derive(Drop)]
+#[derive(Clone, Copy)]
 enum Shown {
     Code8,
     Read8,

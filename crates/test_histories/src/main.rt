@@ -1,5 +1,7 @@
 // Plays calls of a store on a boundary of words, floats and bytes, and tells what each answers and leaves. A line of
 // standard input is a call: words in hex, the first of which is its kind.
+#![tactic(auto)]
+
 mod calls;
 mod fresh;
 mod show;

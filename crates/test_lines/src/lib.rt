@@ -1,4 +1,6 @@
 // Lines of words in hex, as the programs read them.
+#![tactic(auto)]
+
 ghost use Rattle.std.specs.Prelude.{◌≡◌, drop};
 ghost use Rattle.test_lines.specs.Line.{digit_of, with_digit_of, hex_at_of, line_length_of};
 

@@ -72,8 +72,8 @@ module _ (t : ℕ) where
       rw (decimal-last n (omega arith) (omega arith))
       (placed_next (48 + n % 10) c.before.before.put-number.ensures (room c.before.before))
 
-pub +put-number-spec : {M : Type 1} → statement M
-+put-number-spec =
+pub +put_number_spec : {M : Type 1} → statement M
++put_number_spec =
     close μ
     λ t. lts.spec (asked t, reads.Post) (given t) reads.Post
     (cast-out t)

@@ -13,8 +13,8 @@ returns c =
     let values = c.before.before.before.before.before.before.before.before.before.before.before.side-at2 in
     sides_lent a.n a.layer keys.result values.result (store a.«record» (buffers a.cells.now a.scales.now)) keys.ensures.1 values.ensures.1 c.before.before.before.before.append-in.ensures
 
-pub append-from-spec : {M : Type 1} → statement M
-append-from-spec =
+pub append_from_spec : {M : Type 1} → statement M
+append_from_spec =
     tie.close
     (tie.spec
     (λ c. search rules) (λ c κs. search rules) (λ c. search rules) (λ c. search rules) (λ c. search rules) (λ c κs. search rules)

@@ -6,6 +6,6 @@ use Rattle.replay.proofs.no_scales.Tie as tie
 returns : tie.Need-returns
 returns c = refl
 
-pub no-scales-spec : {M : Type 1} → statement M
-no-scales-spec =
+pub no_scales_spec : {M : Type 1} → statement M
+no_scales_spec =
     tie.close (tie.spec returns)

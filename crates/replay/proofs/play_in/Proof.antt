@@ -23,8 +23,8 @@ returns-2 : tie.Need-returns-2
 unfolding play_of
 returns-2 c = rw (le-leb _ 16384 c.before.before.before.before.before.before.before.before.if1.false) c.before.before.before.before.walk-file.ensures
 
-pub play-in-spec : {M : Type 1} → statement M
-play-in-spec =
+pub play_in_spec : {M : Type 1} → statement M
+play_in_spec =
     tie.close
     (tie.spec
     (λ c κs. search rules) (λ c κs. search rules) returns (λ c κs. search rules) (λ c. search rules) (λ c. search rules) returns-2)

@@ -16,6 +16,6 @@ unfolding report_of
 returns-2 c =
     rw (← c.before.before.memory-bytes.ensures, eq-eqb _ 0 (sym c.before.number.ensures ∙ c.if1.false))
 
-pub report-spec : {M : Type 1} → statement M
-report-spec =
+pub report_spec : {M : Type 1} → statement M
+report_spec =
     tie.close (tie.spec (λ c κs. search rules) (λ c κs. search rules) returns returns-2)

@@ -6,6 +6,6 @@ use Rattle.replay.proofs.report_line.Tie as tie
 returns : tie.Need-returns
 returns c = rw (← c.before.before.before.before.report.ensures) c.before.before.line-text.ensures
 
-pub report-line-spec : {M : Type 1} → statement M
-report-line-spec =
+pub report_line_spec : {M : Type 1} → statement M
+report_line_spec =
     tie.close (tie.spec (λ c κs. search rules) (λ c κs. search rules) (λ c. search rules) returns)

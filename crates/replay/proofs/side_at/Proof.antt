@@ -13,8 +13,8 @@ returns c =
       side_read s.args.file.now s.args.at s.args.n side.result e.new.1.1.0 side.ensures s.requires.1 s.requires.0 e.ensures,
     )
 
-pub side-at-spec : {M : Type 1} → statement M
-side-at-spec =
+pub side_at_spec : {M : Type 1} → statement M
+side_at_spec =
     tie.close
     (tie.spec
     (λ c κs. search rules) (λ c. search rules) (λ c. search rules) (λ c. search rules) (λ c κs. search rules) returns)

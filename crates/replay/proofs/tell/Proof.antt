@@ -37,8 +37,8 @@ returns-6 c = rw c.enum-told2.given.1
 returns-7 : tie.Need-returns-7
 returns-7 c = rw c.enum-told3.given.1
 
-pub tell-spec : {M : Type 1} → statement M
-tell-spec =
+pub tell_spec : {M : Type 1} → statement M
+tell_spec =
     tie.close
     (tie.spec
     (λ c. search rules) (λ c κs. search rules) (λ c κs. search rules) (λ c. search rules) append-from-requires

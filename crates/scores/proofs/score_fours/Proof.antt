@@ -61,8 +61,8 @@ returns : tie.Need-returns invariant-loop decreases-loop
 unfolding scores_of_block scores_of
 returns c = (c.before.loop.invariant.0, c.before.loop.invariant.1)
 
-pub score-fours-spec : {M : Type 1} → statement M
-score-fours-spec =
+pub score_fours_spec : {M : Type 1} → statement M
+score_fours_spec =
     tie.close
     (tie.spec
     invariant-loop decreases-loop loop-holds (λ c. search rules) cells-of-requires scales-of-requires score-four-requires (λ c. search rules)

@@ -33,8 +33,8 @@ add-at-2 c =
     let w = line_in c.before.before.before.before.before.before.args.names.now c.before.before.before.before.loop.at c.before.before.before.loop-test.true c.before.before.line-length.ensures in
     record { fits = omega arith }
 
-pub play-named-spec : {M : Type 1} → statement M
-play-named-spec =
+pub play_named_spec : {M : Type 1} → statement M
+play_named_spec =
     tie.close
     (tie.spec
     invariant-loop decreases-loop (λ c. search rules) (λ c κs. search rules) add-name (λ c. search rules) (λ c. search rules) part-name-end

@@ -11,8 +11,8 @@ invariant-loop text words₀ at₀ words at = Unit {0}
 abbrev decreases-loop : tie.decreases-loop
 decreases-loop text words₀ at₀ words at = length text - at
 
-pub play-spec : {M : Type 1} → statement M
-play-spec =
+pub play_spec : {M : Type 1} → statement M
+play_spec =
     tie.close
     (tie.spec
     invariant-loop decreases-loop (λ c. search rules) (λ c κs. search rules) (λ c κs. search rules) (λ c. search rules) (λ c κs. search rules)

@@ -16,8 +16,8 @@ returns-3 c = rw c.before.before.before.before.before.line3.given.1 c.before.bef
 returns-4 : tie.Need-returns-4
 returns-4 c = rw c.enum_told.given.1 (laid_none _ _)
 
-pub line-text-spec : {M : Type 1} → statement M
-line-text-spec =
+pub line_text_spec : {M : Type 1} → statement M
+line_text_spec =
     tie.close
     (tie.spec
     (λ c. search rules) (λ c κs. search rules) (λ c κs. search rules) (λ c. search rules) (λ c κs. search rules) (λ c. search rules)

@@ -119,9 +119,9 @@ module _ {M : Type 1} {𝓤 : Ura M} (𝓛 : Logic 𝓤) (mem : Memory → SProp
       (Goes-none_slice 𝓛 4 (0 ∷ []) tt (plain (λ _. u8)) yes, (Goes-slice 𝓛 4 1 tt (plain (λ _. u8)), (Goes-slice 𝓛 4 2 tt (plain (λ _. u32)), (Goes-slice 𝓛 4 3 tt (plain (λ _. u8)), tt))))
       (walk-file.clauses 𝓛 mem run) (WpFn 𝓤 H 𝓣.C 𝓣.Λ code.function) (WpFn-mono 𝓤 H 𝓛.laws 𝓣 code.function) walk-file-walks
 
-pub walk-file-spec : {M : Type 1} → stated.statement M
+pub walk_file_spec : {M : Type 1} → stated.statement M
 unfolding code.routine tables_of
-walk-file-spec 𝓤 𝓛 𝓜 𝓡 =
+walk_file_spec 𝓤 𝓛 𝓜 𝓡 =
     entered 𝓤 𝓛.H (triple_of 𝓛 walk-file.signature (walk-file.spec 𝓛 𝓜.mem 𝓡.run))
     (tables 𝓤 𝓛.H 𝓜 𝓡 code.env).C (tables 𝓤 𝓛.H 𝓜 𝓡 code.env).Λ #replay·walk·walk-file code.function (code.unfolded 𝓤 𝓛.H 𝓜 𝓡)
     (walk-file-meets 𝓛 𝓜.mem 𝓡.run (tables_of 𝓤 𝓛.H 𝓜 (tables 𝓤 𝓛.H 𝓜 𝓡 code.env))

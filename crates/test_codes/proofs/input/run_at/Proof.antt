@@ -11,8 +11,8 @@ invariant-loop text at words₀ place₀ count₀ words place count = (place ≤
 abbrev decreases-loop : tie.decreases-loop
 decreases-loop text at words₀ place₀ count₀ words place count = 64 - count
 
-pub run-at-spec : {M : Type 1} → statement M
-run-at-spec =
+pub run_at_spec : {M : Type 1} → statement M
+run_at_spec =
     tie.close
     (tie.spec
     invariant-loop decreases-loop (λ c. search rules) (λ c. search rules) (λ c. search rules) (λ c. search rules) (λ c. search rules)

@@ -11,8 +11,8 @@ invariant-loop run scale shown i₀ i = i ≤ length run
 abbrev decreases-loop : tie.decreases-loop
 decreases-loop run scale shown i₀ i = length run - i
 
-pub fields-spec : {M : Type 1} → statement M
-fields-spec =
+pub fields_spec : {M : Type 1} → statement M
+fields_spec =
     tie.close
     (tie.spec
     invariant-loop decreases-loop (λ c. search rules) (λ c. search rules) (λ c. search rules) (λ c κs. search rules) (λ c. search rules)

@@ -10,8 +10,8 @@ invariant-loop numbers floats₀ i₀ floats i = i ≤ 256
 abbrev decreases-loop : tie.decreases-loop
 decreases-loop numbers floats₀ i₀ floats i = 256 - i
 
-pub floats-of-spec : {M : Type 1} → statement M
-floats-of-spec =
+pub floats_of_spec : {M : Type 1} → statement M
+floats_of_spec =
     tie.close
     (tie.spec
     invariant-loop decreases-loop (λ c. search rules) (λ c. search rules) (λ c. search rules) (λ c κs. search rules) (λ c. search rules)

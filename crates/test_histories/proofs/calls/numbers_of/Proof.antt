@@ -10,8 +10,8 @@ invariant-loop line k numbers₀ n i₀ numbers i = i ≤ 256
 abbrev decreases-loop : tie.decreases-loop
 decreases-loop line k numbers₀ n i₀ numbers i = 256 - i
 
-pub numbers-of-spec : {M : Type 1} → statement M
-numbers-of-spec =
+pub numbers_of_spec : {M : Type 1} → statement M
+numbers_of_spec =
     tie.close
     (tie.spec
     invariant-loop decreases-loop (λ c κs. search rules) (λ c. search rules) (λ c. search rules) (λ c. search rules) (λ c. search rules)

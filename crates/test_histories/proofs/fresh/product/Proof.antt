@@ -13,6 +13,6 @@ mul-p c =
     let p = mul-le-mul a b in
     record { fits = omega arith }
 
-pub product-spec : {M : Type 1} → statement M
-product-spec =
+pub product_spec : {M : Type 1} → statement M
+product_spec =
     tie.close (tie.spec mul-p (λ c. search rules) (λ c. search rules) (λ c. search rules))

@@ -12,8 +12,8 @@ invariant-loop a b first i₀ i = length a ≡ length b
 abbrev decreases-loop : tie.decreases-loop
 decreases-loop a b first i₀ i = length a - i
 
-pub same-words-spec : {M : Type 1} → statement M
-same-words-spec =
+pub same_words_spec : {M : Type 1} → statement M
+same_words_spec =
     tie.close
     (tie.spec
     invariant-loop decreases-loop (λ c. search rules) (λ c. search rules) (λ c. search rules) (λ c. search rules) (λ c. search rules)

@@ -11,8 +11,8 @@ invariant-loop bytes i₀ i = i ≤ length bytes
 abbrev decreases-loop : tie.decreases-loop
 decreases-loop bytes i₀ i = length bytes - i
 
-pub byte-fields-spec : {M : Type 1} → statement M
-byte-fields-spec =
+pub byte_fields_spec : {M : Type 1} → statement M
+byte_fields_spec =
     tie.close
     (tie.spec
     invariant-loop decreases-loop (λ c. search rules) (λ c. search rules) (λ c κs. search rules) (λ c. search rules) (λ c. search rules)

@@ -11,8 +11,8 @@ invariant-loop words i₀ i = i ≤ length words
 abbrev decreases-loop : tie.decreases-loop
 decreases-loop words i₀ i = length words - i
 
-pub decimals-spec : {M : Type 1} → statement M
-decimals-spec =
+pub decimals_spec : {M : Type 1} → statement M
+decimals_spec =
     tie.close
     (tie.spec
     invariant-loop decreases-loop (λ c. search rules) (λ c. search rules) (λ c. search rules) (λ c κs. search rules) (λ c. search rules)

@@ -11,8 +11,8 @@ invariant-loop lens n₀ n = n ≤ length lens
 abbrev decreases-loop : tie.decreases-loop
 decreases-loop lens n₀ n = n
 
-pub used-spec : {M : Type 1} → statement M
-used-spec =
+pub used_spec : {M : Type 1} → statement M
+used_spec =
     tie.close
     (tie.spec
     invariant-loop decreases-loop (λ c. search rules) (λ c. search rules) (λ c. search rules) (λ c. search rules) (λ c. search rules)

@@ -11,8 +11,8 @@ invariant-loop words i₀ i = i ≤ length words
 abbrev decreases-loop : tie.decreases-loop
 decreases-loop words i₀ i = length words - i
 
-pub word-fields-spec : {M : Type 1} → statement M
-word-fields-spec =
+pub word_fields_spec : {M : Type 1} → statement M
+word_fields_spec =
     tie.close
     (tie.spec
     invariant-loop decreases-loop (λ c. search rules) (λ c. search rules) (λ c. search rules) (λ c κs. search rules) (λ c. search rules)

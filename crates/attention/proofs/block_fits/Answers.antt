@@ -1,0 +1,6 @@
+-- The definition is the two tests.
+use borrow.Author.Rules.{rules}
+use Rattle.attention.proofs.block_fits.Goals as goal
+
+pub returns : goal.returns
+returns c = rw (c.has_scores.ensures, c.rows_fit.ensures)

@@ -1,0 +1,21 @@
+-- The heads passed have their rows, and each turn lends the positions of one head.
+use mathlib.Core.Path.{refl, ◌∙◌}
+use Prim.Native.Nat.{◌-◌}
+use native.Mathlib.Omega.{arith}
+use borrow.Author.Count.{falls}
+use borrow.Author.Rules.{rules}
+use lib.ListN.{length}
+use Rattle.lists.proofs.Part.{lent_count}
+use Rattle.shapes.specs.Shape.{bytes_of, words_of}
+use Rattle.buffers.specs.Calls.{cell_row_of, scale_row}
+use Rattle.buffers.proofs.RunLaws.{cell_rows, scale_rows}
+use Rattle.buffers.proofs.LoopLaws.{Heads, HeadIn, cells_small, words_small, block_in, no_heads, heads_done, head_turn}
+use Rattle.buffers.proofs.put_side.Given as goal
+
+abbrev pub invariant-loop-h : goal.invariant-loop-h
+invariant-loop-h l =
+    Heads (bytes_of l.shape) l.shape l.layer l.side l.p l.n (cell_row_of l.shape l.numbers) l.initial.cells l.h l.cells
+    × Heads (words_of l.shape) l.shape l.layer l.side l.p l.n (scale_row l.shape l.numbers) l.initial.scales l.h l.scales
+
+abbrev pub decreases-loop-h : goal.decreases-loop-h
+decreases-loop-h l = l.shape.heads - l.h

@@ -1,0 +1,15 @@
+-- Up to the place that the loop has come to there are zeros, and from there on what was there.
+use mathlib.Core.Path.{◌≡◌}
+use mathlib.Core.List.{◌++◌}
+use Prim.Native.Nat.{◌-◌, ◌≤◌}
+use native.Mathlib.Omega.{arith}
+use borrow.Author.Rules.{rules}
+use lib.ListN.{length, drop, replicate, length-set}
+use Rattle.buffers.proofs.LoopLaws.{zero_turn, zero_done}
+use Rattle.buffers.proofs.zero_cells.Given as goal
+
+abbrev pub invariant-loop-i : goal.invariant-loop-i
+invariant-loop-i l = (l.i ≤ length l.initial.cells) × (l.cells ≡ replicate l.i 0 ++ drop l.i l.initial.cells) × (length l.cells ≡ length l.initial.cells)
+
+abbrev pub decreases-loop-i : goal.decreases-loop-i
+decreases-loop-i l = length l.initial.cells - l.i

@@ -1,0 +1,18 @@
+-- The numbers passed are read, and what is left is as it was.
+use mathlib.Core.Path.{◌≡◌, refl}
+use mathlib.Core.List.{◌++◌}
+use Prim.Native.Nat.{◌+◌, ◌-◌, ◌*◌, ◌≤◌}
+use native.Mathlib.Omega.{arith}
+use lib.ListN.{length, drop}
+use borrow.Author.Rules.{rules}
+use Rattle.lists.specs.Chunks.{tab}
+use Rattle.lists.proofs.Tab.{tab-set, tab-done}
+use Rattle.callfile.specs.Format.{number_at, words}
+use Rattle.callfile.proofs.FormatLaws.{words-read, words_kept}
+use Rattle.callfile.proofs.read_words.Given as goal
+
+abbrev pub invariant-loop-i : goal.invariant-loop-i
+invariant-loop-i l = (l.i ≤ length l.initial.out) × (l.out ≡ tab l.i (λ j. number_at 4 l.file (l.at + 4 * j)) ++ drop l.i l.initial.out) × (length l.out ≡ length l.initial.out)
+
+abbrev pub decreases-loop-i : goal.decreases-loop-i
+decreases-loop-i l = length l.initial.out - l.i

@@ -1,0 +1,83 @@
+-- `callfile::reader::moved` meets its contract: a walk of its MIR, by hand. A struct is made anew of the slice that the one passed holds, and another number.
+-- The struct is Copy: what it owns is had twice, one copy is kept whole for the exit, and the other, with the facts of the number in the place of the old one's, is what the result owns.
+-- Assumes nothing.
+use mathlib.Core.Path.{refl}
+use Prim.Native.Nat.{ℕ, ◌<◌, ◌^◌}
+use mathlib.Core.List.{[], ◌∷◌}
+use lib.Dec.{T as Holds}
+use seplogic.Ra.Ura.{Ura}
+use mir.Syntax.{named, w64}
+use mir.Val.{Val, WT, has_ty, vint}
+use base.Logic.{SProp, ent, emp, via, fst∗}
+use base.Fml.{Lft, Share, ftrue, flft}
+use prog.Memory.{Memory}
+use prog.Routine.{Routine}
+use prog.Wp.{Calls, Loops, WpFn, Tables}
+use types.Logic.{Logic}
+use contract.Monad.{Fun}
+use contract.Running.{tables, tables_of}
+use types.Kit.{‵, ◌⊛◌, ◌$◌, ◌∵◌, !, qed, by, move, use1, split, fsplit, fjoin, suffices, frame}
+use types.Part.{whole, sub, look_in, agg}
+use types.Run.{look, init, forget, stop, fld, from, load, of_opd, and_then, no_more, assigns, returns, enter, alloc1, alloc0, params1, pass1, pass0, free1, free0}
+use sound.WpLaws.{WpFn-mono}
+use denote.RattleType.{owns}
+use denote.Plain.{uint_vals, uint_Tells}
+use denote.Builtin.{usize}
+use denote.Struct.Laws as LL
+use denote.Triple.Entry.{Vals, on_entry}
+use denote.Triple.Spec.{Meets, triple_of}
+use denote.Triple.Table.{entered}
+use denote.Triple.Walked.{says, Stays, stay_none, walk_of, Goes-none, Walks, ends_at, walked, walk_Meets}
+use denote.Exit.{yes}
+use Rattle.callfile.specs.declared.reader.Reader.{Reader}
+use Rattle.callfile.proofs.reader.Reader.TheLaws as T'
+use Rattle.callfile.proofs.reader.Held.{B, D, L, Own, twice, placed}
+use Rattle.callfile.specs.contracts.reader.moved.Key.{name as #callfile·reader·moved}
+use Rattle.callfile.specs.contracts.reader.moved as moved
+use Rattle.callfile.proofs.reader.moved.Code as code
+use Rattle.callfile.proofs.reader.moved.Goals as goal
+
+abbrev stayed : Stays (moved.ended).signature.params (moved.ended).kept
+stayed = (stay_none B yes, (stay_none (λ _. usize) yes, tt))
+
+module _ {M : Type 1} {𝓤 : Ura M} (𝓛 : Logic 𝓤) (mem : Memory → SProp 𝓤) (run : Routine → Fun 𝓤) (κ : Lft) (q : Share) (d : Reader) (n : ℕ) (ok : n < 2 ^ 64) where
+  open 𝓛 use {H}
+
+  abbrev mach : Val
+  mach = T'.lowered d
+
+  abbrev d' : Reader
+  d' = record { file = d.file; place = n }
+
+  abbrev at : Vals moved.signature (κ, tt)
+  at = (mach ∷ [], (vint w64 n ∷ [], tt))
+
+  abbrev Post : Val → SProp 𝓤
+  Post = (walk_of 𝓛 moved.ended stayed (moved.clauses 𝓛 mem run)).post (((κ, tt), (q, tt), tt, (d, (n, tt)), at), tt)
+
+  exits : ent 𝓤 (on_entry 𝓛 moved.signature (κ, tt) (q, tt) (d, (n, tt)) at) (Post (T'.lowered d'))
+  exits =
+      qed 𝓛 ((‵ (flft κ q) ⊛ ‵ ftrue) ∷ ‵ (owns (B (κ, tt) ∷ usize ∷ []) (d, (n, tt)) at) ∷ []) ∵
+      suffices ! _ (ends_at 𝓛 moved.ended stayed (moved.clauses 𝓛 mem run) (((κ, tt), (q, tt), tt, (d, (n, tt)), at), tt) (T'.lowered d') d' (tt, (tt, tt)) (tt, (tt, tt))) $ says ! (refl, refl) $
+      frame ! $ fsplit ! $ use1 𝓛 (‵ (Own κ d) ⊛ ‵ (Own κ d)) (twice 𝓛 κ d) $ split ! $ move ! (0 ∷ 2 ∷ []) $ fjoin ! $ frame ! $ by ! (placed 𝓛 κ d n ok)
+
+  module _ (C : Calls 𝓤 H) (Λ : Loops 𝓤 H) where
+    walk : Holds (has_ty (T'.mir (named 0)) mach) × WT mach → ent 𝓤 (on_entry 𝓛 moved.signature (κ, tt) (q, tt) (d, (n, tt)) at) (WpFn 𝓤 H C Λ code.function (mach ∷ vint w64 n ∷ []) Post)
+    walk wt =
+        qed 𝓛 ((‵ (flft κ q) ⊛ ‵ ftrue) ∷ ‵ (owns (B (κ, tt) ∷ usize ∷ []) (d, (n, tt)) at) ∷ []) ∵ enter ! C Λ code.function (mach ∷ vint w64 n ∷ []) _ $
+        alloc1 ! (λ l₀. alloc1 ! (λ l₁. alloc1 ! (λ l₂. alloc1 ! (λ l₃. alloc0 ! $ params1 ! $ pass1 ! (init ! 4 refl wt) $ pass1 ! (init ! 2 refl (tt, record { fits = ok })) $ pass0 ! $
+        assigns ! (of_opd ! (load ! (from ! (fld ! refl (stop !))) (look_in ! 4 (sub ! 0 refl (whole !))))) (from ! (stop !)) (init ! 0 refl (tt, wt.1.0)) $
+        assigns ! (agg ! (and_then ! (load ! (from ! (stop !)) (look ! 0 refl)) (and_then ! (load ! (from ! (stop !)) (look ! 2 refl)) (no_more !)))) (from ! (stop !)) (init ! 6 refl (tt, (wt.1.0, (record { fits = ok }, tt)))) $
+        returns ! (look ! 6 refl) $ forget ! 0 refl $ forget ! 2 refl $ forget ! 4 refl $ forget ! 6 refl $
+        move ! (6 ∷ 7 ∷ []) $ free1 ! $ move ! (4 ∷ 5 ∷ []) $ free1 ! $ move ! (2 ∷ 3 ∷ []) $ free1 ! $ free1 ! $ free0 ! $ by ! exits))))
+
+module _ {M : Type 1} {𝓤 : Ura M} (𝓛 : Logic 𝓤) (mem : Memory → SProp 𝓤) (run : Routine → Fun 𝓤) where
+  open 𝓛 use {H}
+
+  moved-walks : (C : Calls 𝓤 H) (Λ : Loops 𝓤 H) → Walks 𝓛 moved.ended stayed (WpFn 𝓤 H C Λ code.function) (moved.clauses 𝓛 mem run)
+  moved-walks C Λ = walked 𝓛 moved.ended stayed (moved.clauses 𝓛 mem run) (WpFn 𝓤 H C Λ code.function) (λ κs. (LL.vals (D κs) (L κs), (uint_vals w64, tt))) (λ κs. (LL.tells (D κs) (L κs), (uint_Tells w64, tt)))
+      (λ κs qs bounds a g are. via 𝓤 _ (fst∗ 𝓤 _ (emp 𝓤)) (walk 𝓛 mem run κs.0 qs.0 a.0 a.1.0 are.1.0.1 C Λ ((LL.lawful (D κs) (L κs) 𝓛).typed a.0 _ are.0).0))
+
+moved-meets : {M : Type 1} {𝓤 : Ura M} (𝓛 : Logic 𝓤) → (mem : Memory → SProp 𝓤) (run : Routine → Fun 𝓤) (𝓣 : Tables 𝓤 𝓛.H)
+    → Meets 𝓛 moved.signature (WpFn 𝓤 𝓛.H 𝓣.C 𝓣.Λ code.function) (moved.spec 𝓛 mem run)
+moved-meets {𝓤 = 𝓤} 𝓛 mem run 𝓣 = walk_Meets 𝓛 moved.ended stayed (Goes-none 𝓛 1 B yes (λ κs x f. refl), (Goes-none 𝓛 1 (λ _. usize) yes (λ κs x f. refl), tt)) (moved.clauses 𝓛 mem run) (WpFn 𝓤 𝓛.H 𝓣.C 𝓣.Λ code.function) (WpFn-mono 𝓤 𝓛.H 𝓛.laws 𝓣 code.function) (moved-walks 𝓛 mem run 𝓣.C 𝓣.Λ)

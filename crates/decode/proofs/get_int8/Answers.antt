@@ -1,0 +1,25 @@
+-- The numbers passed are read from the cells passed, and what is left is as it was.
+use mathlib.Core.Path.{◌≡◌, refl}
+use mathlib.Core.List.{◌++◌}
+use Prim.Native.Nat.{◌-◌, ◌≤◌}
+use native.Mathlib.Omega.{arith}
+use lib.ListN.{length, get_or, drop}
+use borrow.Author.Rules.{rules}
+use Rattle.lists.specs.Chunks.{tab}
+use Rattle.lists.proofs.Tab.{tab-set, tab-done}
+use Rattle.numbers.specs.Word.{word}
+use Rattle.numbers.specs.Code.{read8}
+use Rattle.rows.specs.Row.{int8_numbers}
+use Rattle.decode.proofs.get_int8.Goals as goal
+
+pub loop-d-init : goal.loop-d-init
+unfolding tab
+loop-d-init c = search rules
+
+pub loop-d-preserved : goal.loop-d-preserved
+loop-d-preserved c =
+    (omega arith, tab-set _ _ _ (omega arith) c.loop-d.invariant.1 (rw (c.f32_to_word.ensures, c.dequantize_i8.ensures)), search rules)
+
+pub returns : goal.returns
+unfolding int8_numbers
+returns c = rw (← c.word_to_f32-scale.ensures) (tab-done _ _ _ c.loop-d.invariant.1 (omega arith) refl)

@@ -1,0 +1,19 @@
+-- The cells passed hold the codes of the numbers passed, under the one scale, and what is left is as it was.
+use mathlib.Core.Path.{◌≡◌}
+use mathlib.Core.List.{◌++◌}
+use Prim.Native.Nat.{◌-◌, ◌≤◌}
+use native.Mathlib.Omega.{arith}
+use lib.ListN.{length, get_or, drop, drop_of_length-le}
+use lib.Seq.{set_split}
+use borrow.Author.Rules.{rules}
+use Rattle.lists.specs.Chunks.{tab}
+use Rattle.lists.proofs.Tab.{tab-set, tab-done}
+use Rattle.numbers.specs.Code.{code8}
+use Rattle.rows.specs.Row.{int8_cells, int8_scales}
+use Rattle.encode.proofs.put_int8.Given as goal
+
+abbrev pub invariant-loop-d : goal.invariant-loop-d
+invariant-loop-d l = (l.d ≤ length l.run) × (l.cells ≡ tab l.d (λ i. code8 (get_or l.run i 0) l.scale) ++ drop l.d l.initial.cells) × (length l.cells ≡ length l.initial.cells)
+
+abbrev pub decreases-loop-d : goal.decreases-loop-d
+decreases-loop-d l = length l.run - l.d

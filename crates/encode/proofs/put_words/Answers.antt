@@ -1,0 +1,30 @@
+-- The cells passed hold the numbers passed, and what is left is as it was.
+use mathlib.Core.Path.{refl}
+use Prim.Native.Nat.{◌-◌}
+use native.Mathlib.Omega.{arith}
+use lib.ListN.{length, get_or, length-take, length-drop}
+use borrow.Author.Rules.{rules}
+use Rattle.lists.specs.Chunks.{each}
+use Rattle.lists.proofs.Loop.{Passed, chunk_turn, over, over_done}
+use Rattle.lists.specs.Bytes.{little}
+use Rattle.rows.specs.Row.{f32_cells}
+use Rattle.lists.proofs.Bytes.{little-length}
+use Rattle.encode.proofs.put_words.Goals as goal
+
+pub loop-d-init : goal.loop-d-init
+unfolding each
+loop-d-init c = search rules
+
+pub put_word-requires : goal.put_word-requires
+put_word-requires c = simp (length-take, length-drop) (omega arith)
+
+pub loop-d-preserved : goal.loop-d-preserved
+loop-d-preserved c =
+    let start = c.before.before.before.before.before.before.before.before.before in
+    chunk_turn (over (λ i w. little-length 4 _) start.requires) c.loop-d.invariant (omega arith) refl c.put_word.ensures
+
+pub returns : goal.returns
+unfolding f32_cells
+returns c =
+    let start = c.before.before.before.before in
+    over_done (over (λ i w. little-length 4 _) start.requires) c.loop-d.invariant (omega arith)

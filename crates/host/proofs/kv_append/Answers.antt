@@ -1,0 +1,9 @@
+-- The store's promise of the record that the words are, with its reply as a number and its record as words.
+use borrow.Author.Rules.{rules}
+use Rattle.host.proofs.WordLaws.{as_seen}
+use Rattle.host.proofs.kv_append.Goals as goal
+
+pub returns : goal.returns
+returns c =
+    as_seen c.number.ensures c.words_of.ensures
+    (rw c.record_of.ensures at c.append-answer.ensures)

@@ -1,0 +1,8 @@
+-- The store's promise of the record that the words are, with its reply as a number.
+use mathlib.Core.Path.{refl}
+use borrow.Author.Rules.{rules}
+use Rattle.host.proofs.WordLaws.{as_told}
+use Rattle.host.proofs.kv_cached_len.Goals as goal
+
+pub returns : goal.returns
+returns c = as_told c.number.ensures refl (rw c.record_of.ensures at c.cached_len-answer.ensures)

@@ -1,0 +1,17 @@
+-- The text's first i bytes have been put, and each turn puts one more.
+use Prim.Native.Nat.{◌+◌, ◌-◌, ◌≤◌}
+use mathlib.Core.Path.{◌≡◌}
+use native.Mathlib.Nat.{add-zero}
+use native.Mathlib.Omega.{arith}
+use lib.ListN.{length, take}
+use lib.Seq.{take_all}
+use borrow.Author.Rules.{rules}
+use Rattle.printing.specs.Place.{Placed}
+use Rattle.printing.proofs.PlaceLaws.{placed_none, placed_more, placed_length}
+use Rattle.printing.proofs.put.Given as goal
+
+abbrev pub invariant-loop-i : goal.invariant-loop-i
+invariant-loop-i l = (l.i ≤ length l.text) × Placed l.at (take l.i l.text) l.initial.out (l.at + l.i) l.out
+
+abbrev pub decreases-loop-i : goal.decreases-loop-i
+decreases-loop-i l = length l.text - l.i

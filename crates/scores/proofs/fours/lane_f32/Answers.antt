@@ -1,0 +1,6 @@
+-- The number that is read is the row's.
+use borrow.Author.Rules.{rules}
+use Rattle.scores.proofs.fours.lane_f32.Goals as goal
+
+pub returns : goal.returns
+returns c = rw c.number_at.ensures

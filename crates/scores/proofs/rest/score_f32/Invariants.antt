@@ -1,0 +1,19 @@
+-- The sum so far is that of the numbers passed.
+use mathlib.Core.Path.{◌≡◌}
+use Prim.Native.Nat.{◌-◌, ◌≤◌}
+use native.Mathlib.Omega.{arith}
+use lib.ListN.{length, get_or}
+use lib.Ieee.{nan, binary32, mul}
+use Rattle.lists.specs.Chunks.{turns}
+use Rattle.numbers.specs.Word.{float}
+use Rattle.rows.specs.Row.{f32_at}
+use Rattle.attention.specs.Order.{summed, f32_dot}
+use Rattle.attention.proofs.OrderLaws.{summed_next}
+use borrow.Author.Rules.{rules}
+use Rattle.scores.proofs.rest.score_f32.Given as goal
+
+abbrev pub invariant-loop-d : goal.invariant-loop-d
+invariant-loop-d l = (l.d ≤ length l.query) × (l.sum ≡ summed l.d (λ i. mul binary32 (get_or l.query i nan) (float (f32_at l.cells i))))
+
+abbrev pub decreases-loop-d : goal.decreases-loop-d
+decreases-loop-d l = length l.query - l.d

@@ -1,0 +1,22 @@
+-- Each arm is a format that has scores, with the lengths that it has; no other is asked for.
+use native.Mathlib.Omega.{arith}
+use Rattle.attention.specs.Order.{scorings, row_dot}
+use Rattle.attention.proofs.ScoringLaws.{f32_row, int4_row, scored_other}
+use Rattle.scores.proofs.rest.score_row.Goals as goal
+
+pub score_f32-requires : goal.score_f32-requires
+score_f32-requires c = f32_row _ _ _ _ c.requires c.in-0.is
+
+pub score_int4-requires : goal.score_int4-requires
+score_int4-requires c = int4_row _ _ _ _ c.requires c.in-3.is
+
+pub returns-in-0 : goal.returns-in-0
+unfolding row_dot scorings
+returns-in-0 c = rw c.in-0.is c.score_f32.ensures
+
+pub returns-in-2 : goal.returns-in-2
+unfolding row_dot scorings
+returns-in-2 c = rw c.in-2.is c.score-int4.ensures
+
+pub returns-in-3 : goal.returns-in-3
+returns-in-3 c = absurd (scored_other c.args.format c.requires.0 (λ e. omega arith) (λ e. omega arith))

@@ -1,0 +1,23 @@
+-- Each arm is a format that has sums, with the lengths that it has; no other is asked for.
+use native.Mathlib.Omega.{arith}
+use borrow.Author.Rules.{rules}
+use Rattle.attention.specs.Order.{scorings, row_term, added}
+use Rattle.attention.proofs.ScoringLaws.{f32_row, int4_row, scored_other}
+use Rattle.sums.proofs.rest.add_row.Goals as goal
+
+pub add_f32-requires : goal.add_f32-requires
+add_f32-requires c = f32_row _ _ _ _ c.requires c.in-0.is
+
+pub add_int4-requires : goal.add_int4-requires
+add_int4-requires c = int4_row _ _ _ _ c.requires c.in-3.is
+
+pub returns-in-0 : goal.returns-in-0
+unfolding row_term scorings added
+returns-in-0 c = rw c.in-0.is c.add_f32.ensures
+
+pub returns-in-2 : goal.returns-in-2
+unfolding row_term scorings added
+returns-in-2 c = rw c.in-2.is c.add-int4.ensures
+
+pub returns-in-3 : goal.returns-in-3
+returns-in-3 c = absurd (scored_other c.args.format c.requires.0 (λ e. omega arith) (λ e. omega arith))

@@ -1,0 +1,26 @@
+-- The NaNs passed are counted.
+use mathlib.Core.Path.{◌≡◌}
+use Prim.Native.Nat.{◌+◌, ◌-◌, ◌≤◌}
+use native.Mathlib.Omega.{arith}
+use borrow.Author.Rules.{rules}
+use Rattle.lists.specs.Chunks.{turns}
+use Rattle.lists.proofs.Some.{sum_most}
+use Rattle.lists.proofs.Turns.{turns_next}
+use Rattle.sums.proofs.NanLaws.{nan_count, one_at_most}
+use Rattle.sums.proofs.stored.nans.Goals as goal
+
+pub loop-d-init : goal.loop-d-init
+unfolding turns
+loop-d-init c = search rules
+
+pub overflow_add-count : goal.overflow_add-count
+overflow_add-count c =
+    let k = c.loop-d in
+    let cells = c.args.cells.now in
+    omega (arith, sum_most k.d 1 (nan_count cells) (one_at_most cells), one_at_most cells k.d, c.IsNan-at.ensures)
+
+pub loop-d-preserved : goal.loop-d-preserved
+loop-d-preserved c = (omega arith, turns_next _ _ 0 c.loop-d.invariant.1 (rw c.IsNan-at.ensures))
+
+pub returns : goal.returns
+returns c = let e : c.loop-d.d ≡ c.args.n = omega arith in rw e at c.loop-d.invariant.1

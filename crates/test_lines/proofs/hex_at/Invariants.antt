@@ -1,0 +1,17 @@
+-- The digits before place i have been taken in.
+use mathlib.Core.Path.{◌≡◌, ◌∙◌}
+use Prim.Native.Nat.{◌+◌, ◌-◌, ◌≤◌}
+use native.Mathlib.Omega.{arith}
+use lib.ListN.{length, get_or}
+use borrow.Author.Tests.{le-leb, lt-leb}
+use Rattle.lists.specs.Chunks.{turns}
+use Rattle.lists.proofs.Turns.{turns_next}
+use Rattle.test_lines.specs.Line.{digit_of, with_digit_of, hex_at_of}
+use borrow.Author.Rules.{rules}
+use Rattle.test_lines.proofs.hex_at.Given as goal
+
+abbrev pub invariant-loop-i : goal.invariant-loop-i
+invariant-loop-i l = (l.i ≤ 8) × (l.w ≡ turns l.i (λ j x. with_digit_of x (digit_of (get_or l.text (l.at + j) 0))) 0)
+
+abbrev pub decreases-loop-i : goal.decreases-loop-i
+decreases-loop-i l = 8 - l.i
