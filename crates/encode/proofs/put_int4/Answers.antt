@@ -36,7 +36,7 @@ pub returns : goal.returns
 unfolding int4_cells int4_scales
 returns c =
     let start = c.before.before.before.before.before in
-    let e : length start.args.run.now / 32 ≡ length start.args.scales.now = omega arith in (
-      rw e (over_done (over (λ i w. packed-length _ _) start.requires.1) c.loop-g.invariant.0 (omega arith)),
-      rw e (tab-done _ _ _ c.loop-g.invariant.1 (omega arith) refl),
-    )
+    let e : length start.args.run.now / 32 ≡ length start.args.scales.now = omega arith in record {
+        cells = rw e (over_done (over (λ i w. packed-length _ _) start.requires.1) c.loop-g.invariant.0 (omega arith));
+        scales = rw e (tab-done _ _ _ c.loop-g.invariant.1 (omega arith) refl);
+      }

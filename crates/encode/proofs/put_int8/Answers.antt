@@ -23,7 +23,7 @@ pub returns : goal.returns
 unfolding int8_cells int8_scales
 returns c =
     let start = c.before.before.before.before.before.before.before in
-    let one : length start.args.scales.now ≡ 1 = start.requires.1 in (
-      rw (← c.compute_int8_scale-scale.ensures) (tab-done _ _ _ c.loop-d.invariant.1 (omega arith) start.requires.0),
-      rw (set_split start.args.scales.now 0 _ (omega arith), drop_of_length-le start.args.scales.now {i = 1} (omega arith), c.f32_to_word.ensures, c.compute_int8_scale-scale.ensures),
-    )
+    let one : length start.args.scales.now ≡ 1 = start.requires.1 in record {
+        cells = rw (← c.compute_int8_scale-scale.ensures) (tab-done _ _ _ c.loop-d.invariant.1 (omega arith) start.requires.0);
+        scales = rw (set_split start.args.scales.now 0 _ (omega arith), drop_of_length-le start.args.scales.now {i = 1} (omega arith), c.f32_to_word.ensures, c.compute_int8_scale-scale.ensures);
+      }
