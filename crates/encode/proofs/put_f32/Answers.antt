@@ -2,7 +2,6 @@
 use mathlib.Core.Path.{ap, ◌∙◌}
 use native.Mathlib.Omega.{arith}
 use lib.ListN.{length, length-append}
-use borrow.Author.Rules.{rules}
 use Rattle.rows.specs.Row.{f32_cells}
 use Rattle.encode.proofs.EncodeLaws.{first_lent}
 use Rattle.encode.proofs.put_f32.Goals as goal

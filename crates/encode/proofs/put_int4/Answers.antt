@@ -1,18 +1,15 @@
 -- The cells and scale words passed are those of the groups passed, and what is left is as it was.
 use mathlib.Core.Path.{◌≡◌, refl}
-use mathlib.Core.List.{◌++◌}
-use Prim.Native.Nat.{◌-◌, ◌/◌}
+use Prim.Native.Nat.{◌/◌}
 use native.Mathlib.Nat.{add-sub_cancel_left}
 use native.Mathlib.Omega.{arith}
-use lib.ListN.{length, drop, length-take, length-drop}
+use lib.ListN.{length, length-take, length-drop}
 use borrow.Author.Rules.{rules}
 use Rattle.lists.specs.Chunks.{tab, each}
-use Rattle.lists.proofs.Loop.{Passed, chunk_turn, over, over_done}
+use Rattle.lists.proofs.Loop.{chunk_turn, over, over_done}
 use Rattle.lists.proofs.Tab.{tab-set, tab-done}
-use Rattle.numbers.specs.Word.{word}
-use Rattle.groups.specs.Group.{packed}
 use Rattle.groups.proofs.GroupLaws.{packed-length}
-use Rattle.rows.specs.Row.{group, group_scale_of, int4_cells, int4_scales}
+use Rattle.rows.specs.Row.{int4_cells, int4_scales}
 use Rattle.encode.proofs.put_int4.Goals as goal
 
 pub loop-g-init : goal.loop-g-init
@@ -35,6 +32,6 @@ pub returns : goal.returns
 unfolding int4_cells int4_scales
 returns c =
     let e : length c.args.run.now / 32 ≡ length c.args.scales.now = omega arith in record {
-        cells = rw e (over_done (over (λ i w. packed-length _ _) c.requires.1) c.loop-g.invariant.0 (omega arith));
-        scales = rw e (tab-done _ _ _ c.loop-g.invariant.1 (omega arith) refl);
-      }
+      cells = rw e (over_done (over (λ i w. packed-length _ _) c.requires.1) c.loop-g.invariant.0 (omega arith));
+      scales = rw e (tab-done _ _ _ c.loop-g.invariant.1 (omega arith) refl);
+    }

@@ -1,5 +1,4 @@
 -- The test that led to each end is the definition's.
-use borrow.Author.Rules.{rules}
 use mathlib.Core.Path.{◌∙◌, sym}
 use Rattle.groups.specs.Group.{group_reply, unpack_into}
 use Rattle.groups.proofs.GroupLaws.{enough}
