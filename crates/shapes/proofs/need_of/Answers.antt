@@ -13,4 +13,4 @@ totals-requires c = passed c.is_within.ensures c.if-not-is_within.false
 
 pub returns : goal.returns
 unfolding need_of
-returns c = rw (passed c.is_within.ensures c.if-not-is_within.false, ← c.totals.ensures.0, ← c.totals.ensures.1)
+returns c = rw (passed c.is_within.ensures c.if-not-is_within.false, ← c.totals.ensures.cells, ← c.totals.ensures.scales)

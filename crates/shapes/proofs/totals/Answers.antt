@@ -10,4 +10,4 @@ pub elements-requires-2 : goal.elements-requires-2
 elements-requires-2 c = let h = within-limits _ c.requires in (h, rw c.scale_words.ensures (scale-words_most _ (limits_facts _ h)))
 
 pub returns : goal.returns
-returns c = (rw (c.elements.ensures, c.cell_bytes.ensures), rw (c.elements-2.ensures, c.scale_words.ensures))
+returns c = record { cells = rw (c.elements.ensures, c.cell_bytes.ensures); scales = rw (c.elements-2.ensures, c.scale_words.ensures) }

@@ -8,4 +8,4 @@ overflow_cast-result c = omega (arith, c.wrapping_add_u32-sum.type_inv)
 
 pub returns : goal.returns
 unfolding bf16
-returns c = rw (c.wrapping_add_u32-sum.ensures, add_assoc)
+returns c = rw (c.wrapping_add_u32-sum.ensures.value, add_assoc)
