@@ -42,6 +42,7 @@ pub fn entry_at(file: &[u8], at: usize) -> Entry
 }
 
 // A record of a kind, whose mark and kind lie in the file.
+#[tactic(auto, unfolding(crate::specs::Format::kind_at))]
 fn kind_at(kind: u8, file: &[u8], at: usize) -> Entry
     requires { at + 3 ≤ length file.now }
     ensures { result ≡ kind_at kind file.now at }

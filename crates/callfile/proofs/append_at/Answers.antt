@@ -3,7 +3,6 @@ use Prim.Native.Nat.{◌+◌, ◌*◌}
 use native.Mathlib.Omega.{arith}
 use lib.ListN.{length}
 use borrow.Author.Tests.{le-leb, lt-leb}
-use borrow.Author.Rules.{rules}
 use Rattle.callfile.specs.Format.{append_at_of}
 use Rattle.callfile.proofs.append_at.Goals as goal
 
@@ -17,7 +16,7 @@ returns-then-n-gt512 c =
     let a = c.args in
     rw (
       le-leb (a.at + 7) (length a.file.now) (omega arith),
-      ← c.u16_at-n.ensures.0,
+      ← c.u16_at-n.ensures.value,
       lt-leb c.u16_at-n.result 512 (omega arith),
     )
 
@@ -28,7 +27,7 @@ returns-then-file-at c =
     let n = c.u16_at-n.result in
     rw (
       le-leb (a.at + 7) (length a.file.now) (omega arith),
-      ← c.u16_at-n.ensures.0,
+      ← c.u16_at-n.ensures.value,
       le-leb n 512 (omega arith),
       lt-leb (a.at + (7 + 8 * n)) (length a.file.now) (omega arith),
     )
@@ -40,8 +39,8 @@ returns c =
     let n = c.u16_at-n.result in
     rw (
       le-leb (a.at + 7) (length a.file.now) (omega arith),
-      ← c.u16_at-n.ensures.0,
+      ← c.u16_at-n.ensures.value,
       le-leb n 512 (omega arith),
       le-leb (a.at + (7 + 8 * n)) (length a.file.now) (omega arith),
-      c.u16_at-layer.ensures.0,
+      c.u16_at-layer.ensures.value,
     )

@@ -3,7 +3,6 @@ use Prim.Native.Nat.{◌+◌}
 use native.Mathlib.Omega.{arith}
 use lib.ListN.{length}
 use borrow.Author.Tests.{le-leb, lt-leb, eq-eqb, ne_eqb}
-use borrow.Author.Rules.{rules}
 use Rattle.callfile.specs.Format.{entry_at_of}
 use Rattle.callfile.proofs.FormatLaws.{entry_marked}
 use Rattle.callfile.proofs.entry_at.Goals as goal

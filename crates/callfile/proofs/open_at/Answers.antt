@@ -3,7 +3,6 @@ use Prim.Native.Nat.{◌+◌}
 use native.Mathlib.Omega.{arith}
 use lib.ListN.{length}
 use borrow.Author.Tests.{le-leb, lt-leb}
-use borrow.Author.Rules.{rules}
 use Rattle.callfile.specs.Format.{open_at}
 use Rattle.callfile.proofs.open_at.Goals as goal
 
@@ -17,9 +16,9 @@ returns c =
     let a = c.args in
     rw (
       le-leb (a.at + 12) (length a.file.now) (omega arith),
-      c.u8_at.ensures.0,
-      c.u16_at.ensures.0,
-      c.u16_at-2.ensures.0,
-      c.u16_at-3.ensures.0,
-      c.u16_at-4.ensures.0,
+      c.u8_at.ensures.value,
+      c.u16_at.ensures.value,
+      c.u16_at-2.ensures.value,
+      c.u16_at-3.ensures.value,
+      c.u16_at-4.ensures.value,
     )

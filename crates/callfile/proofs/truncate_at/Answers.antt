@@ -3,7 +3,6 @@ use Prim.Native.Nat.{◌+◌}
 use native.Mathlib.Omega.{arith}
 use lib.ListN.{length}
 use borrow.Author.Tests.{le-leb, lt-leb}
-use borrow.Author.Rules.{rules}
 use Rattle.callfile.specs.Format.{truncate_at_of}
 use Rattle.callfile.proofs.truncate_at.Goals as goal
 
@@ -15,4 +14,4 @@ pub returns : goal.returns
 unfolding truncate_at_of
 returns c =
     let a = c.args in
-    rw (le-leb (a.at + 7) (length a.file.now) (omega arith), c.u16_at.ensures.0, c.u16_at-2.ensures.0)
+    rw (le-leb (a.at + 7) (length a.file.now) (omega arith), c.u16_at.ensures.value, c.u16_at-2.ensures.value)
