@@ -6,8 +6,7 @@ use Rattle.encode.proofs.put_group.Goals as goal
 
 pub returns : goal.returns
 returns c =
-    let start = c.before.before.before.before.before.before.before.before in
     let scale = c.compute_int4_scale-scale.ensures in record {
         scale = rw (c.f32_to_word.ensures, scale);
-        cells = c.pack_i4_group.ensures.1 ∙ rw scale (pack_all _ start.args.cells.now _ start.requires.0 start.requires.1);
+        cells = c.pack_i4_group.ensures.bytes ∙ rw scale (pack_all _ c.args.cells.now _ c.requires.0 c.requires.1);
       }

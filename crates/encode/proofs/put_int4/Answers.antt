@@ -24,19 +24,17 @@ put_group-requires c = (simp (length-take, length-drop) (omega arith), simp (len
 
 pub loop-g-preserved : goal.loop-g-preserved
 loop-g-preserved c =
-    let start = c.before.before.before.before.before.before.before.before.before.before in
     let inv = c.loop-g.invariant in
     let put = c.put_group.ensures in (
-      chunk_turn (over (λ i w. packed-length _ _) start.requires.1) inv.0 (omega arith) refl (rw add-sub_cancel_left at put.1),
-      tab-set _ _ _ (omega arith) inv.1 (rw add-sub_cancel_left at put.0),
+      chunk_turn (over (λ i w. packed-length _ _) c.requires.1) inv.0 (omega arith) refl (rw add-sub_cancel_left at put.cells),
+      tab-set _ _ _ (omega arith) inv.1 (rw add-sub_cancel_left at put.scale),
       search rules,
     )
 
 pub returns : goal.returns
 unfolding int4_cells int4_scales
 returns c =
-    let start = c.before.before.before.before.before in
-    let e : length start.args.run.now / 32 ≡ length start.args.scales.now = omega arith in record {
-        cells = rw e (over_done (over (λ i w. packed-length _ _) start.requires.1) c.loop-g.invariant.0 (omega arith));
+    let e : length c.args.run.now / 32 ≡ length c.args.scales.now = omega arith in record {
+        cells = rw e (over_done (over (λ i w. packed-length _ _) c.requires.1) c.loop-g.invariant.0 (omega arith));
         scales = rw e (tab-done _ _ _ c.loop-g.invariant.1 (omega arith) refl);
       }
