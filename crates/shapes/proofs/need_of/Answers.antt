@@ -1,7 +1,6 @@
 -- Inside the limits both totals are computed; outside, there is no need.
 use Rattle.replies.proofs.Flags.{passed, failed}
 use Rattle.shapes.specs.Shape.{need_of}
-use borrow.Author.Rules.{rules}
 use Rattle.shapes.proofs.need_of.Goals as goal
 
 pub returns-then-not-is_within : goal.returns-then-not-is_within

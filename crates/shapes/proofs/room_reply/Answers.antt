@@ -2,7 +2,6 @@
 use Rattle.replies.proofs.Flags.{passed, failed}
 use Rattle.replies.specs.Outcome.{lowest}
 use Rattle.shapes.specs.Shape.{exact}
-use borrow.Author.Rules.{rules}
 use Rattle.shapes.proofs.room_reply.Goals as goal
 
 pub returns-then-not-is_within : goal.returns-then-not-is_within

@@ -1,6 +1,5 @@
 -- Inside the limits both totals are computed.
 use Rattle.shapes.proofs.ShapeLaws.{within-limits, limits_facts, cell_bytes_most, scale-words_most}
-use borrow.Author.Rules.{rules}
 use Rattle.shapes.proofs.totals.Goals as goal
 
 pub elements-requires : goal.elements-requires

@@ -1,5 +1,4 @@
 -- The difference is exact at each byte, and the product is the definition's own.
-use Rattle.std.proofs.Common.{rules}
 use Rattle.numbers.specs.Code.{read8}
 use Rattle.numbers.proofs.Reading.{raised_less_128}
 use Rattle.numbers.proofs.codes.dequantize_i8.Goals as goal

@@ -2,7 +2,6 @@
 use Rattle.std.proofs.Common.{◌≡◌, ℕ, ◌≤◌, cond, pos, arith, le→leb}
 use lib.Ieee.{Float, lt, in_float}
 use Rattle.numbers.specs.Word.{float, whole}
-use Rattle.numbers.specs.Code.{clamped}
 use Rattle.numbers.proofs.Halves.{Nearest, clamped_before, ending, raised_no_nan, one_more, no_more}
 use Rattle.numbers.proofs.Patterns.{up_to_infinity}
 use Rattle.numbers.proofs.Signs.{counts}

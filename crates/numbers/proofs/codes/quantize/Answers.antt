@@ -1,6 +1,6 @@
 -- The clamped quotient comes back from its pattern, whose sign and magnitude give the code; a NaN's code is `zero`.
 use Rattle.std.proofs.Common.{◌≡◌, ℕ, ◌+◌, ◌-◌, ◌%◌, ◌≤◌, true, false, not, T, ◌⊎◌, inl, inr, refl, ◌∙◌, arith}
-use lib.Ieee.{Float, binary32, div, ne, to_bits, is_nan, fits}
+use lib.Ieee.{Float, binary32, ne, to_bits, is_nan, fits}
 use lib.Ieee.Bits.{of_bits-to_bits}
 use lib.Ieee.Fits.{div-fits}
 use Rattle.numbers.specs.Word.{float}

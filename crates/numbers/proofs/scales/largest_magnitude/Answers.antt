@@ -1,7 +1,7 @@
 -- `scales::largest_magnitude` meets its contract: what is left of the run, started at what was found, has the run's own largest magnitude.
-use Rattle.std.proofs.Common.{◌≡◌, ◌-◌, ◌≤◌, length, get_or, drop, ap, ◌∙◌, ⊎_elim, rules}
+use Rattle.std.proofs.Common.{◌≡◌, get_or, ap, ◌∙◌, rules}
 use Rattle.numbers.specs.Word.{float}
-use Rattle.numbers.specs.Scale.{magnitude, larger, largest_from, largest}
+use Rattle.numbers.specs.Scale.{magnitude, larger}
 use Rattle.numbers.proofs.Largest.{unsigned, start, turn, end, larger_yes, larger_no}
 use Rattle.numbers.proofs.scales.largest_magnitude.Goals as goal
 use Rattle.numbers.proofs.scales.largest_magnitude.Goals.{then-most-x, else-most-x}
