@@ -5,6 +5,7 @@ use crate::{fresh, show};
 use std::io;
 
 // One line after the other. `lent` has the cell bytes and scale words that are lent, `survivors` and `counts` the surviving rows.
+#[tactic(auto, using(test_lines::proofs::LineLaws::line_in))]
 pub(crate) fn play(
     rt: &impl Print,
     text: &[u8],
