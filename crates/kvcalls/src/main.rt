@@ -9,6 +9,7 @@ fn main(rt: HostRuntime) -> io::Result<()> {
     start(&rt, &space[..n])
 }
 
+#[tactic(auto, using(printing::proofs::LaidLaws::laid_in))]
 fn start(rt: &impl Print, file: &[u8]) -> io::Result<()> {
     let mut out = [0u8; 4_194_304];
     let played = replay::play(file, &mut out);

@@ -14,6 +14,7 @@ fn main(rt: HostRuntime) -> io::Result<()> {
 }
 
 // One name after the other.
+#[tactic(auto, using(test_lines::proofs::LineLaws::line_in))]
 fn play_named(rt: &(impl Files + Print), names: &[u8]) -> io::Result<()> {
     let mut at = 0;
     while at < names.len() {
@@ -45,6 +46,7 @@ fn play_at(rt: &(impl Files + Print), path: &str) -> io::Result<()> {
     }
 }
 
+#[tactic(auto, using(printing::proofs::LaidLaws::laid_in))]
 fn start(rt: &impl Print, file: &[u8]) -> io::Result<()> {
     let mut out = [0u8; 4_194_304];
     let played = play(file, &mut out);
