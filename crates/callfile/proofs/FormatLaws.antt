@@ -48,12 +48,6 @@ pub words_kept : (file : List ℕ) (at : ℕ) (out : List ℕ) → length file <
 unfolding words_read
 words_kept file at out h = rw (lt-leb (at + 4 * length out) (length file) h)
 
--- a place whose mark and kind lie in the file
-pub entry_marked : (file : List ℕ) (at : ℕ) → at + 3 ≤ length file
-    → entry_at_of file at ≡ cond (marked file at) (kind_at (get_or file (at + 2) 0) file at) Bad
-unfolding entry_at_of
-entry_marked file at h = rw (lt-leb (length file) at (omega arith), le-leb (at + 3) (length file) h)
-
 -- no record stands where the place after is the place itself
 pub size_none : (e : Entry) → size_of e ≡ 0 → (e ≡ End) ⊎ (e ≡ Bad)
 size_none (Open s) h = absurd (omega arith)

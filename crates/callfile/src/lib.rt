@@ -23,6 +23,7 @@ pub enum Entry {
 }
 
 // What stands at a place.
+#[tactic(auto, unfolding(crate::specs::Format::entry_at_of))]
 pub fn entry_at(file: &[u8], at: usize) -> Entry
     ensures { result ≡ entry_at_of file.now at }
 {
@@ -42,6 +43,7 @@ pub fn entry_at(file: &[u8], at: usize) -> Entry
 }
 
 // A record of a kind, whose mark and kind lie in the file.
+#[tactic(auto, unfolding(crate::specs::Format::kind_at))]
 fn kind_at(kind: u8, file: &[u8], at: usize) -> Entry
     requires { at + 3 ≤ length file.now }
     ensures { result ≡ kind_at kind file.now at }
@@ -56,6 +58,7 @@ fn kind_at(kind: u8, file: &[u8], at: usize) -> Entry
     }
 }
 
+#[tactic(auto, unfolding(crate::specs::Format::open_at))]
 fn open_at(file: &[u8], at: usize) -> Entry
     requires { at + 3 ≤ length file.now }
     ensures { result ≡ open_at file.now at }
@@ -74,6 +77,7 @@ fn open_at(file: &[u8], at: usize) -> Entry
     }
 }
 
+#[tactic(auto, unfolding(crate::specs::Format::append_at_of))]
 fn append_at(file: &[u8], at: usize) -> Entry
     requires { at + 3 ≤ length file.now }
     ensures { result ≡ append_at_of file.now at }
@@ -92,6 +96,7 @@ fn append_at(file: &[u8], at: usize) -> Entry
     Entry::Append { layer, n }
 }
 
+#[tactic(auto, unfolding(crate::specs::Format::truncate_at_of))]
 fn truncate_at(file: &[u8], at: usize) -> Entry
     requires { at + 3 ≤ length file.now }
     ensures { result ≡ truncate_at_of file.now at }
@@ -105,6 +110,7 @@ fn truncate_at(file: &[u8], at: usize) -> Entry
     }
 }
 
+#[tactic(auto, unfolding(crate::specs::Format::advance_at_of))]
 fn advance_at(file: &[u8], at: usize) -> Entry
     requires { at + 3 ≤ length file.now }
     ensures { result ≡ advance_at_of file.now at }

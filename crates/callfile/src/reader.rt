@@ -4,7 +4,7 @@ ghost use Rattle.callfile.specs.Format.{entry_at_of};
 
 use super::{Entry, entry_at};
 
-#[derive(Drop)]
+#[derive(Clone, Copy)]
 pub struct Reader<'a> {
     pub file: &'a [u8],
     pub place: usize,

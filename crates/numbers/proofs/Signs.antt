@@ -1,5 +1,5 @@
 -- A word without its sign stands for the same magnitude, so the sign and the clamped magnitude give the clamped number.
-use Rattle.std.proofs.Common.{◌≡◌, ℕ, zero, suc, ◌+◌, ◌-◌, ◌%◌, ◌≤◌, min, Bool, true, false, cond, ltb, leb, pos, neg_ℤ, refl, zero-add, arith, ltb-false, ltb-true, le-leb}
+use Rattle.std.proofs.Common.{◌≡◌, ℕ, zero, suc, ◌+◌, ◌-◌, ◌%◌, ◌<◌, ◌≤◌, min, Bool, true, false, cond, leb, pos, neg_ℤ, refl, zero-add, arith, le-leb}
 use lib.Ieee.{Float, nan, inf, fin}
 use borrow.Author.Tests.{lt-leb}
 use Rattle.numbers.specs.Word.{float}
@@ -31,8 +31,8 @@ module _ (low high base : ℕ) where
   clamped_at : (b : ℕ) → let s = leb 2147483648 b in let n = counts (cond s low high) (float (b % 2147483648)) in above base (clamped low high (float b)) ≡ cond s (base - n) (base + n)
   clamped_at b = rw (with_sign b, without_sign b) (clamped_signed (leb 2147483648 b) (bare b))
 
-  pub clamped_up : (b : ℕ) → ltb b 2147483648 ≡ true → above base (clamped low high (float b)) ≡ base + counts high (float (b % 2147483648))
-  clamped_up b t = rw (lt-leb 2147483648 b (ltb-true b 2147483648 t)) at (clamped_at b)
+  pub clamped_up : (b : ℕ) → b < 2147483648 → above base (clamped low high (float b)) ≡ base + counts high (float (b % 2147483648))
+  clamped_up b t = rw (lt-leb 2147483648 b t) at (clamped_at b)
 
-  pub clamped_down : (b : ℕ) → ltb b 2147483648 ≡ false → above base (clamped low high (float b)) ≡ base - counts low (float (b % 2147483648))
-  clamped_down b t = rw (le-leb 2147483648 b (ltb-false b 2147483648 t)) at (clamped_at b)
+  pub clamped_down : (b : ℕ) → 2147483648 ≤ b → above base (clamped low high (float b)) ≡ base - counts low (float (b % 2147483648))
+  clamped_down b t = rw (le-leb 2147483648 b t) at (clamped_at b)

@@ -1,21 +1,21 @@
 -- A line at an offset: laid where it has room, and nothing where it has none. At the start of a buffer it is the text and what was behind it.
 -- Each holds by the definition, at either answer of the test for room.
 use mathlib.Core.Path.{◌≡◌, refl, sym, ap, ◌∙◌}
-use mathlib.Core.Bool.{Bool, true, false, not}
+use mathlib.Core.Bool.{Bool, true, false}
 use mathlib.Core.List.{List, []}
 use Prim.Native.Nat.{ℕ, ◌+◌, ◌≤◌}
 use native.Mathlib.Nat.{zero-add}
 use native.Mathlib.Omega.{arith}
 use lib.Dec.{leb}
 use lib.ListN.{length, drop, length-append}
-use borrow.Author.Tests.{leb-true, not-true, not-false, le-leb}
+use borrow.Author.Tests.{leb-true, le-leb}
 use Rattle.printing.specs.Place.{over, Placed}
 use Rattle.printing.specs.Text.{Laid, laid, laid_at}
 use Rattle.printing.proofs.PlaceLaws.{placed_none}
 
 -- the test for room, passed
-pub has_room : (at size : ℕ) {r : Bool} → r ≡ leb (at + 2048) size → not r ≡ false → at + 2048 ≤ size
-has_room at size {r} e t = leb-true (at + 2048) size (sym e ∙ not-false r t)
+pub has_room : (at size : ℕ) {r : Bool} → r ≡ leb (at + 2048) size → r ≡ true → at + 2048 ≤ size
+has_room at size e t = leb-true (at + 2048) size (sym e ∙ t)
 
 -- with room
 pub laid_there : (at : ℕ) (t b : List ℕ) → at + 2048 ≤ length b
@@ -28,10 +28,10 @@ pub placed_laid_at : {at end : ℕ} {t b a : List ℕ} → at + 2048 ≤ length 
 placed_laid_at {at} {t = t} {b} h p = rw (laid_there at t b h, p.place, p.out)
 
 -- without
-pub none_laid : (at : ℕ) (t b : List ℕ) {r : Bool} → r ≡ leb (at + 2048) (length b) → not r ≡ true
+pub none_laid : (at : ℕ) (t b : List ℕ) {r : Bool} → r ≡ leb (at + 2048) (length b) → r ≡ false
     → ◌≡◌ {A = Laid} (record { count = at; out = b }) (laid_at at t b)
 unfolding laid_at
-none_laid at t b {r} e n = rw (← e, not-true r n)
+none_laid at t b e n = rw (← e, n)
 
 -- at the start of a buffer
 pub placed_laid : {end : ℕ} {t b a : List ℕ} → Placed 0 t b end a → ◌≡◌ {A = Laid} (record { count = end; out = a }) (laid t b)

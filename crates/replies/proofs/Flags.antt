@@ -1,11 +1,11 @@
 -- What a flag says: of both its parts, and of the definition that a call's answer is.
 use mathlib.Core.Path.{◌≡◌, refl, sym, ◌∙◌}
-use mathlib.Core.Bool.{Bool, true, false, cond, not, ◌&&◌}
+use mathlib.Core.Bool.{Bool, true, false, cond, ◌&&◌}
 use Prim.Native.Nat.{ℕ, ◌+◌, ◌-◌, ◌≤◌, ◌<◌}
 use native.Mathlib.Decide.{dec_lt}
 use native.Mathlib.Omega.{arith}
 use lib.Dec.{leb}
-use borrow.Author.Tests.{le-leb, lt-leb, not-true, not-false}
+use borrow.Author.Tests.{le-leb, lt-leb}
 
 pub both : (p q : Bool) → (p && q) ≡ true → (p ≡ true) × (q ≡ true)
 both true q h = (refl, h)
@@ -14,11 +14,11 @@ both false q h = (cc, cc)
 pub both_true : {p q : Bool} → p ≡ true → q ≡ true → (p && q) ≡ true
 both_true e h = rw (e, h)
 
-pub passed : {t u : Bool} → t ≡ u → not t ≡ false → u ≡ true
-passed e h = sym e ∙ not-false _ h
+pub passed : {t u : Bool} → t ≡ u → t ≡ true → u ≡ true
+passed e h = sym e ∙ h
 
-pub failed : {t u : Bool} → t ≡ u → not t ≡ true → u ≡ false
-failed e h = sym e ∙ not-true _ h
+pub failed : {t u : Bool} → t ≡ u → t ≡ false → u ≡ false
+failed e h = sym e ∙ h
 
 -- a choice between two that are alike
 pub alike : {A : Type 0} (b : Bool) (x : A) → cond b x x ≡ x

@@ -22,6 +22,8 @@ pub at_every : {A B : Type 0} (P : A → B → Type 0) (l : List A) (m : List B)
 at_every P [] [] u v h p n = p
 at_every P (x ∷ l) (y ∷ m) u v h p zero = h.0
 at_every P (x ∷ l) (y ∷ m) u v h p (suc n) = at_every P l m u v h.1 p n
+at_every P [] (y ∷ m) u v h p n = elim h [ ]
+at_every P (x ∷ l) [] u v h p n = elim h [ ]
 
 -- a head's numbers take no more than 1,024 cells, and no more scale words
 pub record LawfulLayout (f : Layout) : Type 0 where

@@ -1,5 +1,4 @@
 -- The definition is the two tests.
-use borrow.Author.Rules.{rules}
 use Rattle.attention.proofs.block_fits.Goals as goal
 
 pub returns : goal.returns

@@ -1,14 +1,10 @@
 -- The numbers passed are read, and what is left is as it was.
-use mathlib.Core.Path.{◌≡◌, refl}
+use mathlib.Core.Path.{◌≡◌}
 use mathlib.Core.List.{◌++◌}
 use Prim.Native.Nat.{◌+◌, ◌-◌, ◌*◌, ◌≤◌}
-use native.Mathlib.Omega.{arith}
 use lib.ListN.{length, drop}
-use borrow.Author.Rules.{rules}
 use Rattle.lists.specs.Chunks.{tab}
-use Rattle.lists.proofs.Tab.{tab-set, tab-done}
-use Rattle.callfile.specs.Format.{number_at, words}
-use Rattle.callfile.proofs.FormatLaws.{words-read, words_kept}
+use Rattle.callfile.specs.Format.{number_at}
 use Rattle.callfile.proofs.read_words.Given as goal
 
 abbrev pub invariant-loop-i : goal.invariant-loop-i

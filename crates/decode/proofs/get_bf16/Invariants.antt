@@ -1,16 +1,11 @@
 -- The numbers passed are read from the cells passed, and what is left is as it was.
-use mathlib.Core.Path.{◌≡◌, refl}
+use mathlib.Core.Path.{◌≡◌}
 use mathlib.Core.List.{◌++◌}
 use Prim.Native.Nat.{◌-◌, ◌*◌, ◌≤◌}
-use native.Mathlib.Nat.{add-sub_cancel_left}
-use native.Mathlib.Omega.{arith}
-use lib.ListN.{length, drop, length-take, length-drop}
-use borrow.Author.Rules.{rules}
+use lib.ListN.{length, drop}
 use Rattle.lists.specs.Chunks.{tab, part}
-use Rattle.lists.proofs.Tab.{tab-set, tab-done}
 use Rattle.numbers.specs.Word.{from_bf16}
 use Rattle.lists.specs.Bytes.{from_little}
-use Rattle.rows.specs.Row.{bf16_numbers}
 use Rattle.decode.proofs.get_bf16.Given as goal
 
 abbrev pub invariant-loop-d : goal.invariant-loop-d

@@ -1,13 +1,11 @@
 -- The numbers passed are read from the cells passed, and what is left is as it was.
-use mathlib.Core.Path.{◌≡◌, refl}
-use mathlib.Core.List.{◌++◌}
-use Prim.Native.Nat.{◌-◌, ◌*◌, ◌≤◌}
+use mathlib.Core.Path.{refl}
+use Prim.Native.Nat.{◌*◌}
 use native.Mathlib.Omega.{arith}
-use lib.ListN.{length, drop}
 use borrow.Author.Rules.{rules}
 use Rattle.lists.specs.Chunks.{tab}
 use Rattle.lists.proofs.Tab.{tab-set, tab-done}
-use Rattle.rows.specs.Row.{f32_at, f32_numbers}
+use Rattle.rows.specs.Row.{f32_numbers}
 use Rattle.decode.proofs.DecodeLaws.{word_lent}
 use Rattle.decode.proofs.get_f32.Goals as goal
 

@@ -1,14 +1,9 @@
 -- The numbers passed are read from the cells passed, and what is left is as it was.
-use mathlib.Core.Path.{◌≡◌, refl}
-use mathlib.Core.List.{◌++◌}
-use Prim.Native.Nat.{◌-◌, ◌≤◌}
+use mathlib.Core.Path.{refl}
 use native.Mathlib.Omega.{arith}
-use lib.ListN.{length, get_or, drop}
 use borrow.Author.Rules.{rules}
 use Rattle.lists.specs.Chunks.{tab}
 use Rattle.lists.proofs.Tab.{tab-set, tab-done}
-use Rattle.numbers.specs.Word.{word}
-use Rattle.numbers.specs.Code.{read8}
 use Rattle.rows.specs.Row.{int8_numbers}
 use Rattle.decode.proofs.get_int8.Goals as goal
 

@@ -1,6 +1,5 @@
 -- Two bytes make a number, and nothing lies past them.
 use native.Mathlib.Omega.{arith}
-use borrow.Author.Rules.{rules}
 use Rattle.lists.proofs.Bytes.{from_byte, from_end}
 use Rattle.decode.proofs.half_of.Goals as goal
 

@@ -1,6 +1,5 @@
 -- Four bytes make a number, and nothing lies past them.
 use native.Mathlib.Omega.{arith}
-use borrow.Author.Rules.{rules}
 use borrow.Author.Tests.{eq-eqb, ne_eqb}
 use Rattle.lists.specs.Bytes.{from_little}
 use Rattle.lists.proofs.Bytes.{from_byte, from_end}

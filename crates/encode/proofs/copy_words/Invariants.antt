@@ -1,12 +1,9 @@
 -- The words passed are the run's, and what is left is as it was.
-use mathlib.Core.Path.{◌≡◌, refl, sym, ◌∙◌}
+use mathlib.Core.Path.{◌≡◌}
 use mathlib.Core.List.{◌++◌}
 use Prim.Native.Nat.{◌-◌, ◌≤◌}
-use native.Mathlib.Omega.{arith}
 use lib.ListN.{length, get_or, drop}
-use borrow.Author.Rules.{rules}
 use Rattle.lists.specs.Chunks.{tab}
-use Rattle.lists.proofs.Tab.{tab_of, tab-set, tab-done}
 use Rattle.encode.proofs.copy_words.Given as goal
 
 abbrev pub invariant-loop-i : goal.invariant-loop-i

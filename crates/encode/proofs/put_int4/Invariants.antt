@@ -1,18 +1,13 @@
 -- The cells and scale words passed are those of the groups passed, and what is left is as it was.
-use mathlib.Core.Path.{◌≡◌, refl}
+use mathlib.Core.Path.{◌≡◌}
 use mathlib.Core.List.{◌++◌}
-use Prim.Native.Nat.{◌-◌, ◌/◌}
-use native.Mathlib.Nat.{add-sub_cancel_left}
-use native.Mathlib.Omega.{arith}
-use lib.ListN.{length, drop, length-take, length-drop}
-use borrow.Author.Rules.{rules}
-use Rattle.lists.specs.Chunks.{tab, each}
-use Rattle.lists.proofs.Loop.{Passed, chunk_turn, over, over_done}
-use Rattle.lists.proofs.Tab.{tab-set, tab-done}
+use Prim.Native.Nat.{◌-◌}
+use lib.ListN.{length, drop}
+use Rattle.lists.specs.Chunks.{tab}
+use Rattle.lists.proofs.Loop.{Passed}
 use Rattle.numbers.specs.Word.{word}
 use Rattle.groups.specs.Group.{packed}
-use Rattle.groups.proofs.GroupLaws.{packed-length}
-use Rattle.rows.specs.Row.{group, group_scale_of, int4_cells, int4_scales}
+use Rattle.rows.specs.Row.{group, group_scale_of}
 use Rattle.encode.proofs.put_int4.Given as goal
 
 abbrev pub invariant-loop-g : goal.invariant-loop-g

@@ -2,14 +2,9 @@
 use mathlib.Core.Path.{◌≡◌}
 use mathlib.Core.List.{◌++◌}
 use Prim.Native.Nat.{◌-◌, ◌≤◌}
-use native.Mathlib.Omega.{arith}
-use lib.ListN.{length, get_or, drop, drop_of_length-le}
-use lib.Seq.{set_split}
-use borrow.Author.Rules.{rules}
+use lib.ListN.{length, get_or, drop}
 use Rattle.lists.specs.Chunks.{tab}
-use Rattle.lists.proofs.Tab.{tab-set, tab-done}
 use Rattle.numbers.specs.Code.{code8}
-use Rattle.rows.specs.Row.{int8_cells, int8_scales}
 use Rattle.encode.proofs.put_int8.Given as goal
 
 abbrev pub invariant-loop-d : goal.invariant-loop-d

@@ -1,14 +1,10 @@
 -- The bytes passed are those of the group, and what is left is as it was.
-use borrow.Author.Rules.{rules}
-use Prim.Native.Nat.{◌-◌, ◌≤◌, ◌<◌}
+use Prim.Native.Nat.{◌-◌, ◌≤◌}
 use mathlib.Core.Path.{◌≡◌}
 use mathlib.Core.List.{◌++◌}
-use native.Mathlib.Omega.{arith}
 use lib.ListN.{length, drop}
 use Rattle.lists.specs.Chunks.{tab}
-use Rattle.lists.proofs.Tab.{tab-set}
-use Rattle.numbers.proofs.CodeLaws.{code4_nibble}
-use Rattle.groups.specs.Group.{byte_at, packed}
+use Rattle.groups.specs.Group.{byte_at}
 use Rattle.groups.proofs.pack.Given as goal
 
 abbrev pub invariant-loop-i : goal.invariant-loop-i

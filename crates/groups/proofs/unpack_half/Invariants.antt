@@ -1,13 +1,10 @@
 -- The numbers passed are those of the half, and what is left is as it was.
-use borrow.Author.Rules.{rules}
 use Prim.Native.Nat.{◌-◌, ◌≤◌}
 use mathlib.Core.Path.{◌≡◌}
 use mathlib.Core.List.{◌++◌}
-use native.Mathlib.Omega.{arith}
 use lib.ListN.{length, drop}
 use Rattle.lists.specs.Chunks.{tab}
-use Rattle.lists.proofs.Tab.{tab-set, tab-done}
-use Rattle.groups.specs.Group.{group_number, half}
+use Rattle.groups.specs.Group.{group_number}
 use Rattle.groups.proofs.unpack_half.Given as goal
 
 abbrev pub invariant-loop-i : goal.invariant-loop-i

@@ -1,7 +1,6 @@
 -- Past the first position's test the sum of positions does not wrap, and all other tests are one expression.
 use Prim.Native.Nat.{◌+◌}
 use native.Mathlib.Omega.{arith}
-use borrow.Author.Rules.{rules}
 use borrow.Author.Tests.{lt-leb}
 use Rattle.replies.proofs.Flags.{and_false, within_rest}
 use Rattle.places.specs.Span.{has_span_of}

@@ -1,13 +1,7 @@
 -- The text's first i bytes have been put, and each turn puts one more.
 use Prim.Native.Nat.{◌+◌, ◌-◌, ◌≤◌}
-use mathlib.Core.Path.{◌≡◌}
-use native.Mathlib.Nat.{add-zero}
-use native.Mathlib.Omega.{arith}
 use lib.ListN.{length, take}
-use lib.Seq.{take_all}
-use borrow.Author.Rules.{rules}
 use Rattle.printing.specs.Place.{Placed}
-use Rattle.printing.proofs.PlaceLaws.{placed_none, placed_more, placed_length}
 use Rattle.printing.proofs.put.Given as goal
 
 abbrev pub invariant-loop-i : goal.invariant-loop-i

@@ -1,15 +1,8 @@
 -- The first i lengths have been put, each in at most 11 bytes, and each turn puts one more.
 use Prim.Native.Nat.{◌+◌, ◌-◌, ◌*◌, ◌≤◌}
-use mathlib.Core.Path.{◌≡◌}
-use native.Mathlib.Omega.{arith}
-use lib.ListN.{length, take, get_or, length-set}
-use lib.Seq.{take_all}
-use borrow.Author.Rules.{rules}
+use lib.ListN.{length, take}
 use Rattle.printing.specs.Place.{Placed}
 use Rattle.printing.specs.Text.{spaced}
-use Rattle.printing.proofs.DigitLaws.{word-length}
-use Rattle.printing.proofs.LengthLaws.{placed_number}
-use Rattle.printing.proofs.PlaceLaws.{placed_none, placed_length}
 use Rattle.printing.proofs.put_lengths.Given as goal
 
 abbrev pub invariant-loop-i : goal.invariant-loop-i

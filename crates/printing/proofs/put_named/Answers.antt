@@ -2,10 +2,9 @@
 use native.Mathlib.Omega.{arith}
 use Rattle.printing.proofs.DigitLaws.{decimal-length}
 use Rattle.printing.proofs.PlaceLaws.{placed_then}
-use borrow.Author.Rules.{rules}
 use Rattle.printing.proofs.put_named.Goals as goal
 
 pub returns : goal.returns
 returns c =
     let w = decimal-length c.args.n in
-    (placed_then c.put-end.ensures c.put_number.ensures (omega arith), omega arith)
+    record { placed = placed_then c.put-end.ensures c.put_number.ensures (omega arith); upper_bound = omega arith }

@@ -4,7 +4,6 @@ use native.Mathlib.Omega.{arith}
 use Rattle.shapes.specs.Shape.{cell_bytes_of}
 use Rattle.shapes.specs.Format.{Layout, layouts}
 use Rattle.shapes.proofs.FormatLaws.{unknown}
-use borrow.Author.Rules.{rules}
 use Rattle.shapes.proofs.cell_bytes.Goals as goal
 
 pub returns-in-0 : goal.returns-in-0

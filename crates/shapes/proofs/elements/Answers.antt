@@ -1,7 +1,6 @@
 -- The limits bound every product.
 use mathlib.Core.Path.{refl}
 use native.Mathlib.Omega.{arith}
-use borrow.Author.Rules.{rules}
 use Rattle.shapes.specs.Shape.{total}
 use Rattle.shapes.proofs.ShapeLaws.{limits_facts, total_small}
 use Rattle.shapes.proofs.elements.Goals as goal

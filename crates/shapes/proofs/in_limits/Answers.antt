@@ -1,6 +1,5 @@
 -- The definition is the tests.
 use Rattle.shapes.specs.Shape.{limits}
-use borrow.Author.Rules.{rules}
 use Rattle.shapes.proofs.in_limits.Goals as goal
 
 pub returns : goal.returns

@@ -2,7 +2,6 @@
 use Rattle.replies.proofs.Flags.{passed, failed}
 use Rattle.shapes.specs.Shape.{within}
 use Rattle.shapes.proofs.ShapeLaws.{limits_facts, cell_bytes_most}
-use borrow.Author.Rules.{rules}
 use Rattle.shapes.proofs.is_within.Goals as goal
 
 pub returns-then-not-in_limits : goal.returns-then-not-in_limits

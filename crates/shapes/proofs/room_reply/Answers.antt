@@ -2,7 +2,6 @@
 use Rattle.replies.proofs.Flags.{passed, failed}
 use Rattle.replies.specs.Outcome.{lowest}
 use Rattle.shapes.specs.Shape.{exact}
-use borrow.Author.Rules.{rules}
 use Rattle.shapes.proofs.room_reply.Goals as goal
 
 pub returns-then-not-is_within : goal.returns-then-not-is_within
@@ -14,8 +13,8 @@ totals-need-requires c = passed c.is_within.ensures c.if-not-is_within.false
 
 pub returns-then-cells-need : goal.returns-then-cells-need
 unfolding lowest exact
-returns-then-cells-need c = rw (passed c.is_within.ensures c.if-not-is_within.false, ← c.totals-need.ensures.0, ← c.totals-need.ensures.1, c.if-cells-need.true)
+returns-then-cells-need c = rw (passed c.is_within.ensures c.if-not-is_within.false, ← c.totals-need.ensures.cells, ← c.totals-need.ensures.scales, c.if-cells-need.true)
 
 pub returns : goal.returns
 unfolding lowest exact
-returns c = rw (passed c.is_within.ensures c.if-not-is_within.false, ← c.totals-need.ensures.0, ← c.totals-need.ensures.1, c.if-cells-need.false)
+returns c = rw (passed c.is_within.ensures c.if-not-is_within.false, ← c.totals-need.ensures.cells, ← c.totals-need.ensures.scales, c.if-cells-need.false)

@@ -1,13 +1,8 @@
--- A slice of bytes has numbers below 256.
+-- One byte is its own number.
+use mathlib.Core.Path.{sym}
 use native.Mathlib.Omega.{arith}
-use borrow.Author.Rules.{rules}
 use Rattle.callfile.proofs.FormatLaws.{number_byte}
 use Rattle.callfile.proofs.little.u8_at.Goals as goal
 
-pub overflow-cast-result : goal.overflow-cast-result
-overflow-cast-result c = omega (arith, c.shared-slice-known.given c.before.args.at)
-
-pub returns : goal.returns
-returns c =
-    let a = c.args in
-    (omega (arith, number_byte a.file.now a.at (omega arith)), omega (arith, c.shared_slice_known-1.given a.at))
+pub returns-clause-value : goal.returns-clause-value
+returns-clause-value c = let a = c.args in sym (number_byte a.file.now a.at (omega arith))

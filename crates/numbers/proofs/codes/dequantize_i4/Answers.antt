@@ -1,5 +1,4 @@
 -- The product is the definition's own.
-use Rattle.std.proofs.Common.{rules}
 use Rattle.numbers.specs.Code.{read4}
 use Rattle.numbers.proofs.codes.dequantize_i4.Goals as goal
 

@@ -1,5 +1,4 @@
 -- The difference is exact at each byte.
-use Rattle.std.proofs.Common.{rules}
 use Rattle.numbers.specs.Code.{less8}
 use Rattle.numbers.proofs.Reading.{less-8}
 use Rattle.numbers.proofs.codes.less_8.Goals as goal

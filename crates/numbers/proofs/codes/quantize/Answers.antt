@@ -1,6 +1,6 @@
 -- The clamped quotient comes back from its pattern, whose sign and magnitude give the code; a NaN's code is `zero`.
-use Rattle.std.proofs.Common.{◌≡◌, ℕ, ◌+◌, ◌-◌, ◌%◌, ◌≤◌, not, T, refl, ◌∙◌, arith}
-use lib.Ieee.{Float, binary32, div, to_bits, is_nan, fits}
+use Rattle.std.proofs.Common.{◌≡◌, ℕ, ◌+◌, ◌-◌, ◌%◌, ◌≤◌, true, false, not, T, ◌⊎◌, inl, inr, refl, ◌∙◌, arith}
+use lib.Ieee.{Float, binary32, ne, to_bits, is_nan, fits}
 use lib.Ieee.Bits.{of_bits-to_bits}
 use lib.Ieee.Fits.{div-fits}
 use Rattle.numbers.specs.Word.{float}
@@ -11,22 +11,61 @@ use Rattle.numbers.proofs.Signs.{counts, counts_up_to, clamped_up, clamped_down}
 use Rattle.numbers.proofs.codes.quantize.Goals as goal
 use Rattle.numbers.proofs.codes.quantize.Goals.{then-q, else-q}
 
--- the quotient q, cut at the upper end as x, is a number of 32 bits
-is_number : (high : ℕ) (q x : Float) → high ≤ 128 → x ≡ topped high q → T (not (is_nan x))
-is_number high q x h e = rw e (topped_no_nan high h q)
+module _ (low high zero : ℕ) (q x : Float) (l : low ≤ 128) (h : high ≤ low) (e : x ≡ topped high q) where
+  is_number : T (not (is_nan x))
+  is_number = rw e (topped_no_nan high (omega arith) q)
 
-in_range : (high : ℕ) (q x : Float) → T (fits binary32 q) → x ≡ topped high q → T (fits binary32 x)
-in_range high q x f e = rw e (topped_fits high q f)
+  in_range : T (fits binary32 q) → T (fits binary32 x)
+  in_range f = rw e (topped_fits high q f)
 
--- its pattern has its code
-code_is : (low high zero : ℕ) (q x : Float) → low ≤ 128 → high ≤ low → T (fits binary32 q) → x ≡ topped high q → T (not (is_nan q))
-    → above zero (clamped low low (float (to_bits binary32 x))) ≡ above zero (clamped low high q)
-code_is low high zero q x l h f e n = ?
+  code_is : T (fits binary32 q) → T (not (is_nan q)) → above zero (clamped low low (float (to_bits binary32 x))) ≡ above zero (clamped low high q)
+  code_is f n =
+      let back : float (to_bits binary32 x) ≡ topped high q = of_bits-to_bits binary32 x (in_range f) ∙ e in
+      rw (back, topped_clamped low high h l q n)
+
+  -- a NaN counts nothing, and what is not one counts as its magnitude does
+  counted : (f : ℕ → ℕ) (m n : ℕ) → T (fits binary32 q) → n ≡ counts low (float (to_bits binary32 x % 2147483648)) → f 0 ≡ zero + 0
+      → above zero (clamped low low (float (to_bits binary32 x))) ≡ f (counts low (float (to_bits binary32 x % 2147483648)))
+      → (ne q q ≡ true) × (m ≡ 0) ⊎ (ne q q ≡ false) × (m ≡ n) → f m ≡ above zero (clamped low high q)
+  unfolding clamped
+  counted f m n t k z u (inl w) = rw (w.1, z, differs q w.0)
+  counted f m n t k z u (inr w) = rw (w.1, k, ← u) (code_is t (no_nan q w.0))
+
+few : (low m n : ℕ) (x : Float) → n ≡ counts low x → (m ≡ 0) ⊎ (m ≡ n) → m ≤ low
+few low m n x k (inl w) = omega arith
+few low m n x k (inr w) = rw (w, k) (counts_up_to low x)
 
 pub float_to_bits-bits : goal.float_to_bits-bits
-float_to_bits-bits c = is_number _ _ _ (omega arith) c.smaller-bits.ensures
+float_to_bits-bits c = is_number _ _ c.args.zero _ _ c.requires.0 c.requires.1 c.smaller-bits.ensures
 
 pub nearest_whole-n-requires : goal.nearest_whole-n-requires
 nearest_whole-n-requires c =
-    let q = div-fits binary32 c.word_to_f32.result c.args.scale in
-    (word_up_to_infinity _ (in_range _ _ _ q c.smaller-bits.ensures) (is_number _ _ _ (omega arith) c.smaller-bits.ensures), omega arith)
+    let s = in_range c.args.low c.args.high c.args.zero _ _ c.requires.0 c.requires.1 c.smaller-bits.ensures (div-fits binary32 _ _) in
+    let n = is_number c.args.low c.args.high c.args.zero _ _ c.requires.0 c.requires.1 c.smaller-bits.ensures in
+    (word_up_to_infinity _ s n, omega arith)
+
+pub overflow_add-result : goal.overflow_add-result
+overflow_add-result c =
+    let m : c.if-q.m ≤ c.args.low = few _ _ _ _ c.nearest_whole-n.ensures (elim c.if-q.branch [ then-q w ↦ inl w.m-is | else-q w ↦ inr w.m-is ]) in
+    record { fits = omega arith }
+
+pub overflow_sub-result : goal.overflow_sub-result
+overflow_sub-result c =
+    let m : c.if-q.m ≤ c.args.low = few _ _ _ _ c.nearest_whole-n.ensures (elim c.if-q.branch [ then-q w ↦ inl w.m-is | else-q w ↦ inr w.m-is ]) in
+    omega arith
+
+pub returns-then-positive : goal.returns-then-positive
+returns-then-positive c =
+    let a = c.args in
+    rw (← c.word_to_f32.ensures)
+    (counted a.low a.high a.zero _ c.smaller-bits.result c.requires.0 c.requires.1 c.smaller-bits.ensures (λ (n : ℕ). a.zero + n) c.if-q.m c.nearest_whole-n.result
+    (div-fits binary32 _ _) c.nearest_whole-n.ensures refl (clamped_up a.low a.low a.zero _ c.if-positive.true)
+    (elim c.if-q.branch [ then-q w ↦ inl (w.if-q.true, w.m-is) | else-q w ↦ inr (w.if-q.false, w.m-is) ]))
+
+pub returns-else-positive : goal.returns-else-positive
+returns-else-positive c =
+    let a = c.args in
+    rw (← c.word_to_f32.ensures)
+    (counted a.low a.high a.zero _ c.smaller-bits.result c.requires.0 c.requires.1 c.smaller-bits.ensures (λ (n : ℕ). a.zero - n) c.if-q.m c.nearest_whole-n.result
+    (div-fits binary32 _ _) c.nearest_whole-n.ensures (omega arith) (clamped_down a.low a.low a.zero _ c.if-positive.false)
+    (elim c.if-q.branch [ then-q w ↦ inl (w.if-q.true, w.m-is) | else-q w ↦ inr (w.if-q.false, w.m-is) ]))

@@ -1,5 +1,5 @@
 -- The code is below 16, so that the cast changes nothing.
-use Rattle.std.proofs.Common.{arith, rules}
+use Rattle.std.proofs.Common.{arith}
 use Rattle.numbers.specs.Code.{code4}
 use Rattle.numbers.proofs.CodeLaws.{code4_nibble}
 use Rattle.numbers.proofs.codes.quantize_i4.Goals as goal

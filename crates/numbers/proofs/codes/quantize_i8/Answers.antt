@@ -1,5 +1,4 @@
 -- 256 added and taken off again is two's complement.
-use Rattle.std.proofs.Common.{rules}
 use Rattle.numbers.proofs.CodeLaws.{code8_wraps}
 use Rattle.numbers.proofs.codes.quantize_i8.Goals as goal
 

@@ -1,5 +1,4 @@
 -- `scales::scale_by` meets its contract: its test is the definition's, at the largest magnitude.
-use Rattle.std.proofs.Common.{rules}
 use Rattle.numbers.proofs.ScaleLaws.{scale_one, scale_divided}
 use Rattle.numbers.proofs.scales.scale_by.Goals as goal
 

@@ -1,5 +1,5 @@
 -- `words::f32_to_bf16` meets its contract: the wrapping sum is the definition's sum, grouped otherwise.
-use Rattle.std.proofs.Common.{add_assoc, arith, rules}
+use Rattle.std.proofs.Common.{add_assoc, arith}
 use Rattle.numbers.specs.Word.{bf16}
 use Rattle.numbers.proofs.words.f32_to_bf16.Goals as goal
 
@@ -8,4 +8,4 @@ overflow_cast-result c = omega (arith, c.wrapping_add_u32-sum.type_inv)
 
 pub returns : goal.returns
 unfolding bf16
-returns c = rw (c.wrapping_add_u32-sum.ensures, add_assoc)
+returns c = rw (c.wrapping_add_u32-sum.ensures.value, add_assoc)

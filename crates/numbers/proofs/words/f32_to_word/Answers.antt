@@ -1,5 +1,4 @@
 -- `words::f32_to_word` meets its contract: a float that differs from itself is the NaN, and any other has a word of its own.
-use Rattle.std.proofs.Common.{rules}
 use lib.Ieee.{to_bits}
 use Rattle.numbers.proofs.Patterns.{differs, no_nan}
 use Rattle.numbers.proofs.words.f32_to_word.Goals as goal

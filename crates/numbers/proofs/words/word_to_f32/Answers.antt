@@ -1,5 +1,4 @@
 -- `words::word_to_f32` meets its contract: past the infinity's pattern, without its sign, a word is a NaN's, and only there.
-use Rattle.std.proofs.Common.{rules}
 use lib.Ieee.{div, of_bits}
 use Rattle.numbers.proofs.Patterns.{above_infinity, up_to_infinity}
 use Rattle.numbers.proofs.words.word_to_f32.Goals as goal
