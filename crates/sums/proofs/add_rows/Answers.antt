@@ -1,5 +1,4 @@
 -- Each format's own way adds the rows' terms in their order.
-use borrow.Author.Rules.{rules}
 use Rattle.sums.proofs.add_rows.Goals as goal
 
 pub add_f32_rows-requires : goal.add_f32_rows-requires

@@ -1,17 +1,12 @@
 -- The terms of the positions passed are added, in their order; and where no NaN was found in the next four rows, there is none.
-use mathlib.Core.Path.{◌≡◌, refl, sym, ◌∙◌}
-use Prim.Native.Nat.{ℕ, ◌+◌, ◌-◌, ◌*◌, ◌≤◌}
-use native.Mathlib.Nat.{add-sub_cancel_left}
-use native.Mathlib.Omega.{arith}
-use borrow.Author.Rules.{rules}
+use mathlib.Core.Path.{◌≡◌}
+use Prim.Native.Nat.{◌-◌, ◌*◌, ◌≤◌}
 use lib.ListN.{length}
 use Rattle.lists.specs.Chunks.{turns, part}
 use Rattle.shapes.specs.Buffers.{buffers}
-use Rattle.rows.proofs.FitLaws.{fits_facts}
 use Rattle.attention.specs.Order.{added}
 use Rattle.attention.specs.Block.{block_term}
 use Rattle.sums.proofs.NanLaws.{Plain}
-use Rattle.sums.proofs.SumLaws.{f32_inside, f32_count, f32_some, f32_after}
 use Rattle.sums.proofs.fours.add_f32_rows.Given as goal
 
 abbrev pub invariant-loop-p : goal.invariant-loop-p

@@ -1,77 +1,80 @@
 -- At the places passed the four terms are added and the NaNs of the next rows counted, and what is left is as it was.
 use mathlib.Core.Path.{◌≡◌}
-use mathlib.Core.List.{◌++◌}
-use Prim.Native.Nat.{◌+◌, ◌-◌, ◌*◌, ◌≤◌}
+use mathlib.Core.List.{List}
+use Prim.Native.Nat.{ℕ, ◌+◌, ◌*◌, ◌≤◌}
 use native.Mathlib.Omega.{arith}
 use borrow.Author.Rules.{rules}
-use lib.ListN.{length, drop}
+use lib.ListN.{length}
 use Rattle.lists.specs.Chunks.{tab, turns}
 use Rattle.lists.proofs.Some.{sum_most}
 use Rattle.lists.proofs.Turns.{turns_next}
-use Rattle.attention.specs.Order.{f32_term}
-use Rattle.attention.proofs.OrderLaws.{four_terms, four_next, four_all}
+use Rattle.attention.proofs.OrderLaws.{four_next, four_all}
 use Rattle.sums.proofs.NanLaws.{one_at_most, four_nans, four_at_most, term_fits}
 use Rattle.sums.proofs.fours.add_plain.Goals as goal
+
+-- so many NaNs are counted at most
+few : (n d : ℕ) (n0 n2 : List ℕ) {nans : ℕ} → nans ≡ turns d (λ i sum. sum + four_nans n n0 n2 i) 0 → nans ≤ d * 4
+few n d n0 n2 e = rw e (sum_most d 4 (four_nans n n0 n2) (four_at_most n n0 n2))
 
 pub loop-d-init : goal.loop-d-init
 unfolding tab turns
 loop-d-init c = search rules
 
 pub overflow_add-e : goal.overflow_add-e
-overflow_add-e c = omega (arith, c.loop-d-test.true, (let r : length c.args.out.now ≤ 256 = c.requires.1.1.2 in r))
+overflow_add-e c = omega (arith, c.requires.f32_3.2)
 
 pub with_term-t0-requires : goal.with_term-t0-requires
 with_term-t0-requires c =
-    let a = c.before.before.before.before.before.before.before.before in
-    let f = (let r : c.loop-d.nans ≤ c.loop-d.d * 4 = let a = c.args in let n = length a.out.now in rw c.loop-d.invariant.2 (sum_most c.loop-d.d 4 (four_nans n a.n0.now a.n2.now) (four_at_most n a.n0.now a.n2.now)) in r) in
-    term_fits _ _ a.args.n0.now a.requires.0 a.requires.1.1.0 (omega arith) (omega arith)
+    let a = c.args in
+    let f = few (length a.out.now) c.loop-d.d a.n0.now a.n2.now c.loop-d.invariant.2 in
+    term_fits _ _ a.n0.now c.requires.f32 c.requires.f32_3.0 (omega arith) (omega (arith, c.requires.f32_3.2))
 
 pub with_term-t1-requires : goal.with_term-t1-requires
 with_term-t1-requires c =
-    let a = c.before.before.before.before.before.before.before.before.before in
-    let f = (let r : c.loop-d.nans ≤ c.loop-d.d * 4 = let a = c.args in let n = length a.out.now in rw c.loop-d.invariant.2 (sum_most c.loop-d.d 4 (four_nans n a.n0.now a.n2.now) (four_at_most n a.n0.now a.n2.now)) in r) in
+    let a = c.args in
     let d = c.loop-d.d in
-    term_fits _ _ a.args.n0.now a.requires.0 a.requires.1.1.0 (omega arith) (omega (arith, one_at_most a.args.n0.now d))
+    let f = few (length a.out.now) d a.n0.now a.n2.now c.loop-d.invariant.2 in
+    term_fits _ _ a.n0.now c.requires.f32 c.requires.f32_3.0 (omega arith)
+    (omega (arith, c.requires.f32_3.2, one_at_most a.n0.now d))
 
 pub with_term-t2-requires : goal.with_term-t2-requires
 with_term-t2-requires c =
-    let a = c.before.before.before.before.before.before.before.before.before.before in
-    let f = (let r : c.loop-d.nans ≤ c.loop-d.d * 4 = let a = c.args in let n = length a.out.now in rw c.loop-d.invariant.2 (sum_most c.loop-d.d 4 (four_nans n a.n0.now a.n2.now) (four_at_most n a.n0.now a.n2.now)) in r) in
+    let a = c.args in
     let d = c.loop-d.d in
-    let n = length a.args.out.now in
-    term_fits _ _ a.args.n2.now a.requires.1.0 a.requires.1.1.1 (omega arith)
-    (omega (arith, one_at_most a.args.n0.now d, one_at_most a.args.n0.now (n + d)))
+    let f = few (length a.out.now) d a.n0.now a.n2.now c.loop-d.invariant.2 in
+    term_fits _ _ a.n2.now c.requires.f32_2 c.requires.f32_3.1 (omega arith)
+    (omega (arith, c.requires.f32_3.2, one_at_most a.n0.now d, one_at_most a.n0.now (length a.out.now + d)))
 
 pub with_term-t3-requires : goal.with_term-t3-requires
 with_term-t3-requires c =
-    let a = c.before.before.before.before.before.before.before.before.before.before.before in
-    let f = (let r : c.loop-d.nans ≤ c.loop-d.d * 4 = let a = c.args in let n = length a.out.now in rw c.loop-d.invariant.2 (sum_most c.loop-d.d 4 (four_nans n a.n0.now a.n2.now) (four_at_most n a.n0.now a.n2.now)) in r) in
+    let a = c.args in
     let d = c.loop-d.d in
-    let n = length a.args.out.now in
-    term_fits _ _ a.args.n2.now a.requires.1.0 a.requires.1.1.1 (omega arith)
-    (omega (arith, one_at_most a.args.n0.now d, one_at_most a.args.n0.now (n + d), one_at_most a.args.n2.now d))
+    let n = length a.out.now in
+    let f = few n d a.n0.now a.n2.now c.loop-d.invariant.2 in
+    term_fits _ _ a.n2.now c.requires.f32_2 c.requires.f32_3.1 (omega arith)
+    (omega (arith, c.requires.f32_3.2, one_at_most a.n0.now d, one_at_most a.n0.now (n + d), one_at_most a.n2.now d))
 
 pub offset_bounds-out-d-in-loop-d : goal.offset_bounds-out-d-in-loop-d
-offset_bounds-out-d-in-loop-d c = omega (arith, c.loop-d-test.true, (let r : length c.args.out.now ≤ 256 = c.requires.1.1.2 in r))
+offset_bounds-out-d-in-loop-d c = omega (arith, c.requires.f32_3.2)
 
 pub overflow_add-d : goal.overflow_add-d
-overflow_add-d c = omega (arith, c.loop-d-test.true, (let r : length c.args.out.now ≤ 256 = c.requires.1.1.2 in r))
+overflow_add-d c = omega (arith, c.requires.f32_3.2)
 
 pub loop-d-preserved : goal.loop-d-preserved
 loop-d-preserved c =
-    let k = c.before.before.before.before.before.before in
     let t0 = c.with_term-t0.ensures in
     let t1 = c.with_term-t1.ensures in
     let t2 = c.with_term-t2.ensures in
     let t3 = c.with_term-t3.ensures in (
       omega arith,
-      four_next _ _ _ _ k.args.out.now _ (omega arith) k.loop-d.invariant.1 t0.0 t1.0 t2.0 t3.0,
-      turns_next k.loop-d.d _ 0 k.loop-d.invariant.2 (omega arith),
+      four_next _ _ _ _ c.args.out.now _ (omega arith) c.loop-d.invariant.1 t0.0 t1.0 t2.0 t3.0,
+      turns_next c.loop-d.d _ 0 c.loop-d.invariant.2 (omega arith),
       search rules,
     )
 
 pub returns : goal.returns
 returns c =
-    let k = c.before in
-    let e : k.loop-d.d ≡ length k.args.out.now = omega arith in
-    (four_all _ _ _ _ _ k.loop-d.invariant.1 e, rw e at k.loop-d.invariant.2)
+    let e : c.loop-d.d ≡ length c.args.out.now = omega arith in record {
+      sums = four_all _ _ _ _ _ c.loop-d.invariant.1 e;
+      counted = rw e at c.loop-d.invariant.2;
+    }

@@ -1,16 +1,12 @@
 -- At the places passed the four terms are added and the NaNs of the next rows counted, and what is left is as it was.
 use mathlib.Core.Path.{◌≡◌}
 use mathlib.Core.List.{◌++◌}
-use Prim.Native.Nat.{◌+◌, ◌-◌, ◌*◌, ◌≤◌}
-use native.Mathlib.Omega.{arith}
-use borrow.Author.Rules.{rules}
+use Prim.Native.Nat.{◌+◌, ◌-◌, ◌≤◌}
 use lib.ListN.{length, drop}
 use Rattle.lists.specs.Chunks.{tab, turns}
-use Rattle.lists.proofs.Some.{sum_most}
-use Rattle.lists.proofs.Turns.{turns_next}
 use Rattle.attention.specs.Order.{f32_term}
-use Rattle.attention.proofs.OrderLaws.{four_terms, four_next, four_all}
-use Rattle.sums.proofs.NanLaws.{one_at_most, four_nans, four_at_most, term_fits}
+use Rattle.attention.proofs.OrderLaws.{four_terms}
+use Rattle.sums.proofs.NanLaws.{four_nans}
 use Rattle.sums.proofs.fours.add_plain.Given as goal
 
 abbrev pub invariant-loop-d : goal.invariant-loop-d

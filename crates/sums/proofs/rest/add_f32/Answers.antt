@@ -1,11 +1,7 @@
 -- The terms passed are added, and what is left is as it was.
-use mathlib.Core.Path.{◌≡◌}
-use Prim.Native.Nat.{◌-◌, ◌≤◌}
 use native.Mathlib.Omega.{arith}
-use lib.ListN.{length}
 use Rattle.lists.specs.Chunks.{tab}
-use Rattle.attention.specs.Order.{f32_term}
-use Rattle.attention.proofs.OrderLaws.{added_to, added_next, added-all}
+use Rattle.attention.proofs.OrderLaws.{added_next, added-all}
 use borrow.Author.Rules.{rules}
 use Rattle.sums.proofs.rest.add_f32.Goals as goal
 

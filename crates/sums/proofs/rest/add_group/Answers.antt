@@ -1,6 +1,5 @@
 -- Each byte's low code goes to the first half of the sums and its high code to the second, at the same place.
-use mathlib.Core.Path.{◌≡◌}
-use Prim.Native.Nat.{◌+◌, ◌-◌, ◌≤◌, ◌<◌}
+use Prim.Native.Nat.{◌+◌, ◌<◌}
 use native.Mathlib.Nat.{div-one}
 use native.Mathlib.Omega.{arith}
 use borrow.Author.Rules.{rules}
@@ -8,7 +7,7 @@ use lib.ListN.{length}
 use lib.Seq.{lt-length-set}
 use lib.Ieee.{binary32, mul}
 use Rattle.lists.specs.Chunks.{tab}
-use Rattle.sums.proofs.RowLaws.{Halves, halves_next, halves_all}
+use Rattle.sums.proofs.RowLaws.{halves_next, halves_all}
 use Rattle.sums.proofs.rest.add_group.Goals as goal
 
 pub loop-i-init : goal.loop-i-init

@@ -1,14 +1,9 @@
 -- Each byte's low code goes to the first half of the sums and its high code to the second, at the same place.
 use mathlib.Core.Path.{◌≡◌}
-use Prim.Native.Nat.{◌+◌, ◌-◌, ◌≤◌, ◌<◌}
-use native.Mathlib.Nat.{div-one}
-use native.Mathlib.Omega.{arith}
-use borrow.Author.Rules.{rules}
+use Prim.Native.Nat.{◌-◌, ◌≤◌}
 use lib.ListN.{length}
-use lib.Seq.{lt-length-set}
 use lib.Ieee.{binary32, mul}
-use Rattle.lists.specs.Chunks.{tab}
-use Rattle.sums.proofs.RowLaws.{Halves, halves_next, halves_all}
+use Rattle.sums.proofs.RowLaws.{Halves}
 use Rattle.sums.proofs.rest.add_group.Given as goal
 
 abbrev pub invariant-loop-i : goal.invariant-loop-i

@@ -1,13 +1,11 @@
 -- The groups passed are added, and what is left is as it was.
-use mathlib.Core.Path.{◌≡◌, refl}
-use Prim.Native.Nat.{◌-◌, ◌*◌, ◌≤◌}
+use mathlib.Core.Path.{refl}
+use Prim.Native.Nat.{◌*◌}
 use native.Mathlib.Nat.{add-sub_cancel_left}
 use native.Mathlib.Omega.{arith}
 use borrow.Author.Rules.{rules}
-use lib.ListN.{length}
 use Rattle.lists.specs.Chunks.{tab}
-use Rattle.attention.specs.Order.{int4_term}
-use Rattle.attention.proofs.OrderLaws.{added_to, added_lent, added-all}
+use Rattle.attention.proofs.OrderLaws.{added_lent, added-all}
 use Rattle.sums.proofs.RowLaws.{group-term}
 use Rattle.sums.proofs.rest.add_int4.Goals as goal
 

@@ -1,14 +1,9 @@
 -- The groups passed are added, and what is left is as it was.
-use mathlib.Core.Path.{◌≡◌, refl}
+use mathlib.Core.Path.{◌≡◌}
 use Prim.Native.Nat.{◌-◌, ◌*◌, ◌≤◌}
-use native.Mathlib.Nat.{add-sub_cancel_left}
-use native.Mathlib.Omega.{arith}
-use borrow.Author.Rules.{rules}
 use lib.ListN.{length}
-use Rattle.lists.specs.Chunks.{tab}
 use Rattle.attention.specs.Order.{int4_term}
-use Rattle.attention.proofs.OrderLaws.{added_to, added_lent, added-all}
-use Rattle.sums.proofs.RowLaws.{group-term}
+use Rattle.attention.proofs.OrderLaws.{added_to}
 use Rattle.sums.proofs.rest.add_int4.Given as goal
 
 abbrev pub invariant-loop-g : goal.invariant-loop-g

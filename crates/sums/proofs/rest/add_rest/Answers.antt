@@ -1,16 +1,12 @@
 -- The terms of the positions passed are added, in their order.
 use mathlib.Core.Path.{◌≡◌, refl}
-use Prim.Native.Nat.{◌-◌, ◌≤◌}
 use native.Mathlib.Nat.{one-mul}
 use native.Mathlib.Omega.{arith}
 use borrow.Author.Rules.{rules}
 use lib.ListN.{length}
 use Rattle.lists.specs.Chunks.{turns}
 use Rattle.lists.proofs.Turns.{turns_next}
-use Rattle.shapes.specs.Buffers.{buffers}
 use Rattle.rows.proofs.FitLaws.{fits_facts}
-use Rattle.attention.specs.Order.{added}
-use Rattle.attention.specs.Block.{block_term}
 use Rattle.attention.proofs.PartLaws.{part_inside, part_rows}
 use Rattle.sums.proofs.rest.add_rest.Goals as goal
 

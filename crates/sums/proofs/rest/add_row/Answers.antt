@@ -1,6 +1,5 @@
 -- Each arm is a format that has sums, with the lengths that it has; no other is asked for.
 use native.Mathlib.Omega.{arith}
-use borrow.Author.Rules.{rules}
 use Rattle.attention.specs.Order.{scorings, row_term, added}
 use Rattle.attention.proofs.ScoringLaws.{f32_row, int4_row, scored_other}
 use Rattle.sums.proofs.rest.add_row.Goals as goal
@@ -15,9 +14,9 @@ pub returns-in-0 : goal.returns-in-0
 unfolding row_term scorings added
 returns-in-0 c = rw c.in-0.is c.add_f32.ensures
 
-pub returns-in-2 : goal.returns-in-2
-unfolding row_term scorings added
-returns-in-2 c = rw c.in-2.is c.add-int4.ensures
-
 pub returns-in-3 : goal.returns-in-3
-returns-in-3 c = absurd (scored_other c.args.format c.requires.0 (λ e. omega arith) (λ e. omega arith))
+unfolding row_term scorings added
+returns-in-3 c = rw c.in-3.is c.add_int4.ensures
+
+pub returns-in_default : goal.returns-in_default
+returns-in_default c = absurd (scored_other c.args.format c.requires.0 (λ e. omega arith) (λ e. omega arith))

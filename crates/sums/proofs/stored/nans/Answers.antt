@@ -1,6 +1,5 @@
 -- The NaNs passed are counted.
 use mathlib.Core.Path.{◌≡◌}
-use Prim.Native.Nat.{◌+◌, ◌-◌, ◌≤◌}
 use native.Mathlib.Omega.{arith}
 use borrow.Author.Rules.{rules}
 use Rattle.lists.specs.Chunks.{turns}
@@ -17,10 +16,10 @@ pub overflow_add-count : goal.overflow_add-count
 overflow_add-count c =
     let k = c.loop-d in
     let cells = c.args.cells.now in
-    omega (arith, sum_most k.d 1 (nan_count cells) (one_at_most cells), one_at_most cells k.d, c.IsNan-at.ensures)
+    omega (arith, sum_most k.d 1 (nan_count cells) (one_at_most cells), one_at_most cells k.d, c.nan_at-count.ensures)
 
 pub loop-d-preserved : goal.loop-d-preserved
-loop-d-preserved c = (omega arith, turns_next _ _ 0 c.loop-d.invariant.1 (rw c.IsNan-at.ensures))
+loop-d-preserved c = (omega arith, turns_next _ _ 0 c.loop-d.invariant.1 (rw c.nan_at-count.ensures))
 
 pub returns : goal.returns
 returns c = let e : c.loop-d.d ≡ c.args.n = omega arith in rw e at c.loop-d.invariant.1

@@ -1,5 +1,4 @@
 -- The number's pattern is no NaN's.
-use borrow.Author.Rules.{rules}
 use Rattle.sums.proofs.stored.plain_at.Goals as goal
 
 pub float_from_bits-result : goal.float_from_bits-result

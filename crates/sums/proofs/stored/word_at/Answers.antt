@@ -1,6 +1,5 @@
 -- The four bytes that are lent are those of number d.
 use Prim.Native.Nat.{◌*◌}
-use borrow.Author.Rules.{rules}
 use Rattle.decode.proofs.DecodeLaws.{word_lent}
 use Rattle.sums.proofs.stored.word_at.Goals as goal
 
