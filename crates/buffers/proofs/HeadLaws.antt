@@ -28,6 +28,11 @@ pub record RowsPassed (s : Shape) (format h n c w : ℕ) (numbers cells scales :
   pub cell_row : c ≡ cell_bytes_of format (head_size_of s)
   pub scale-row : w ≡ scale_words_of format (head_size_of s)
 
+pub rows_passed : {s : Shape} {format h n c w : ℕ} {numbers cells scales : List ℕ} → format ≡ s.format
+    → HeadRows s h n (length numbers) (length cells) (length scales) → c ≡ cell_bytes_of format (head_size_of s)
+    → w ≡ scale_words_of format (head_size_of s) → RowsPassed s format h n c w numbers cells scales
+rows_passed e f c w = record { named = e; fits = f; cell_row = c; scale-row = w }
+
 -- the numbers and the row of position i lie in what is lent
 pub record RowIn (s : Shape) (h c w i numbers cells scales : ℕ) : Type 0 where
   pub run_in : i * width s + h * head_size_of s + head_size_of s ≤ numbers

@@ -121,9 +121,14 @@ module _ {b : ℕ} {s : Shape} {l side p n : ℕ} {rows : ℕ → ℕ → List �
           kept = rw came (same ∙ o.kept);
         }
 
+-- what is lent has n rows
+pub ends_size : {b : ℕ} {s : Shape} {l side h p n from to : ℕ} (out : List ℕ) → Ends b s l side h p n (length out) from to
+    → length (part from (to - from) out) ≡ n * b
+ends_size {b} {n = n} {from = from} {to = to} out e =
+    let d : to - from ≡ n * b = omega (arith, e.count) in
+    part_length from (to - from) out (omega (arith, e.count, e.inside)) ∙ d
+
 -- zeros are rows of zeros
 pub zeros_lent : {b : ℕ} {s : Shape} {l side h p n from to : ℕ} (out : List ℕ) {y : List ℕ} → Ends b s l side h p n (length out) from to
     → y ≡ replicate (length (part from (to - from) out)) 0 → y ≡ joined n (λ i. replicate b 0)
-zeros_lent {b} {n = n} {from = from} {to = to} out e q =
-    let d : to - from ≡ n * b = omega (arith, e.count) in
-    q ∙ rw (part_length from (to - from) out (omega (arith, e.count, e.inside)), d, joined-replicate {A = ℕ} b n 0)
+zeros_lent {b} {n = n} out e q = q ∙ rw (ends_size out e, joined-replicate {A = ℕ} b n 0)

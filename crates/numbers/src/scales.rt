@@ -12,7 +12,8 @@ pub fn largest_magnitude(run: &[u32]) -> f32
     let mut i = 0;
     while i < run.len() {
         let x = word_to_f32(run[i] % 0x8000_0000);
-        if most < x {
+        let larger = most < x;
+        if larger {
             most = x;
         }
         i += 1;

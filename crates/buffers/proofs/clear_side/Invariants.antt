@@ -1,12 +1,8 @@
 -- The heads passed have their zeros, and each turn lends the positions of one head.
 use Prim.Native.Nat.{◌-◌}
-use native.Mathlib.Omega.{arith}
-use borrow.Author.Count.{falls}
-use borrow.Author.Rules.{rules}
-use lib.ListN.{length, length-replicate}
 use Rattle.shapes.specs.Shape.{bytes_of, words_of}
 use Rattle.buffers.specs.Write.{zeros}
-use Rattle.buffers.proofs.LoopLaws.{Heads, HeadIn, cells_small, words_small, block_in, no_heads, heads_done, head_turn, zeros_lent}
+use Rattle.buffers.proofs.LoopLaws.{Heads}
 use Rattle.buffers.proofs.clear_side.Given as goal
 
 abbrev pub invariant-loop-h : goal.invariant-loop-h

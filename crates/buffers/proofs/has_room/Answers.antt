@@ -2,7 +2,6 @@
 use mathlib.Core.Path.{◌≡◌, refl}
 use mathlib.Core.Bool.{Bool, true, false, cond, not, ◌&&◌}
 use lib.Dec.{eqb}
-use borrow.Author.Rules.{rules}
 use Rattle.replies.specs.Outcome.{lowest}
 use Rattle.shapes.specs.Shape.{within, exact}
 use Rattle.buffers.proofs.has_room.Goals as goal

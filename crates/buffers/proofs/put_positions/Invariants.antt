@@ -1,16 +1,8 @@
 -- The positions passed have their rows, and each turn writes some more in every head.
-use mathlib.Core.Path.{refl, ◌∙◌}
-use Prim.Native.Nat.{◌+◌, ◌-◌, ◌*◌, ◌≤◌, ◌<◌}
-use native.Mathlib.Nat.{le-add_right, add-mul, mul-le-mul_right}
-use native.Mathlib.Omega.{arith}
-use borrow.Author.Rules.{rules}
-use lib.ListN.{length}
-use Rattle.lists.proofs.Part.{lent_count}
-use Rattle.shapes.specs.Shape.{bytes_of, words_of, width}
-use Rattle.shapes.proofs.ShapeLaws.{width_in}
+use Prim.Native.Nat.{◌-◌}
+use Rattle.shapes.specs.Shape.{bytes_of, words_of}
 use Rattle.rows.specs.Row.{row_cells, row_scales}
-use Rattle.buffers.proofs.RunLaws.{cell_rows, scale_rows}
-use Rattle.buffers.proofs.PositionLaws.{Positions, Known, no_positions, position_turn, positions-done}
+use Rattle.buffers.proofs.PositionLaws.{Positions}
 use Rattle.buffers.proofs.put_positions.Given as goal
 
 abbrev pub invariant-loop-j : goal.invariant-loop-j

@@ -1,15 +1,9 @@
 -- The positions passed have their rows, and each turn lends one row of each buffer.
-use mathlib.Core.Path.{refl}
 use mathlib.Core.List.{List}
 use Prim.Native.Nat.{ℕ, ◌+◌, ◌-◌, ◌*◌}
-use native.Mathlib.Omega.{arith}
-use borrow.Author.Rules.{rules}
-use lib.ListN.{length}
-use Rattle.lists.specs.Chunks.{part, each}
+use Rattle.lists.specs.Chunks.{part}
 use Rattle.lists.proofs.Loop.{Passed}
-use Rattle.shapes.proofs.ShapeLaws.{width_in}
 use Rattle.rows.specs.Row.{row_cells, row_scales}
-use Rattle.buffers.proofs.HeadLaws.{RowsPassed, RowIn, row_there, row_turn, rows_done}
 use Rattle.buffers.proofs.put_rows_in.Given as goal
 
 abbrev pub invariant-loop-i : goal.invariant-loop-i

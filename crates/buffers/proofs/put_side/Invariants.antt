@@ -1,15 +1,8 @@
 -- The heads passed have their rows, and each turn lends the positions of one head.
-use mathlib.Core.Path.{refl, ◌∙◌}
 use Prim.Native.Nat.{◌-◌}
-use native.Mathlib.Omega.{arith}
-use borrow.Author.Count.{falls}
-use borrow.Author.Rules.{rules}
-use lib.ListN.{length}
-use Rattle.lists.proofs.Part.{lent_count}
 use Rattle.shapes.specs.Shape.{bytes_of, words_of}
 use Rattle.buffers.specs.Calls.{cell_row_of, scale_row}
-use Rattle.buffers.proofs.RunLaws.{cell_rows, scale_rows}
-use Rattle.buffers.proofs.LoopLaws.{Heads, HeadIn, cells_small, words_small, block_in, no_heads, heads_done, head_turn}
+use Rattle.buffers.proofs.LoopLaws.{Heads}
 use Rattle.buffers.proofs.put_side.Given as goal
 
 abbrev pub invariant-loop-h : goal.invariant-loop-h

@@ -2,10 +2,7 @@
 use mathlib.Core.Path.{◌≡◌}
 use mathlib.Core.List.{◌++◌}
 use Prim.Native.Nat.{◌-◌, ◌≤◌}
-use native.Mathlib.Omega.{arith}
-use borrow.Author.Rules.{rules}
-use lib.ListN.{length, drop, replicate, length-set}
-use Rattle.buffers.proofs.LoopLaws.{zero_turn, zero_done}
+use lib.ListN.{length, drop, replicate}
 use Rattle.buffers.proofs.zero_cells.Given as goal
 
 abbrev pub invariant-loop-i : goal.invariant-loop-i

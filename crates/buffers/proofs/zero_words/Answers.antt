@@ -1,10 +1,6 @@
 -- Up to the place that the loop has come to there are zeros, and from there on what was there.
-use mathlib.Core.Path.{◌≡◌}
-use mathlib.Core.List.{◌++◌}
-use Prim.Native.Nat.{◌-◌, ◌≤◌}
 use native.Mathlib.Omega.{arith}
-use borrow.Author.Rules.{rules}
-use lib.ListN.{length, drop, replicate, length-set}
+use lib.ListN.{length-set}
 use Rattle.buffers.proofs.LoopLaws.{zero_turn, zero_done}
 use Rattle.buffers.proofs.zero_words.Goals as goal
 

@@ -14,12 +14,9 @@ use Rattle.heads.proofs.scores.Goals as goal
 pub returns-then-number-eq0 : goal.returns-then-number-eq0
 unfolding head_scores_of
 returns-then-number-eq0 c =
-    let g = c.before.before in
-    let h = g.before.before.before.before in
-    let k = h.before in
-    let a = k.args in
-    call_done _ k.head_reply-reply.ensures k.number.ensures _ k.if-number-eq0.true
-    (scores_there a.cells.now a.scales.now a.query.now a.scale a.out.now ((let r : let a = k.args in BlockIn a.«record» a.layer 0 a.head 0 (length a.out.now) (length a.query.now) (length a.cells.now) (length a.scales.now) = head_there _ _ _ _ _ _ _ (still_passed k.number.ensures k.head_reply-reply.ensures k.if-number-eq0.true) (omega arith) in r)) (head-scored _ _ _ _ _ _ _ (still_passed k.number.ensures k.head_reply-reply.ensures k.if-number-eq0.true)) h.span_of-span.ensures g.block_scores.ensures)
+    let a = c.args in
+    call_done _ c.head_reply-reply.ensures c.number.ensures _ c.if-number-eq0.true
+    (scores_there a.cells.now a.scales.now a.query.now a.scale a.out.now ((head_there _ _ _ _ _ _ _ (still_passed c.number.ensures c.head_reply-reply.ensures c.if-number-eq0.true) (omega arith))) (head-scored _ _ _ _ _ _ _ (still_passed c.number.ensures c.head_reply-reply.ensures c.if-number-eq0.true)) c.span_of-span.ensures c.block_scores.ensures)
 
 pub returns-else-number-eq0 : goal.returns-else-number-eq0
 unfolding head_scores_of

@@ -2,7 +2,6 @@
 use Rattle.replies.proofs.Flags.{both, passed, failed}
 use Rattle.replies.proofs.Tried.{tried-done}
 use Rattle.attention.specs.Block.{block_scores_of}
-use borrow.Author.Rules.{rules}
 use Rattle.scores.proofs.block_scores.Goals as goal
 
 pub returns-then-not-block_fits : goal.returns-then-not-block_fits

@@ -19,32 +19,29 @@ unfolding append_of
 returns-then-number-ne0 c = call_refused _ c.append_reply-reply.ensures c.number.ensures _ c.if-number-ne0.true
 
 pub overflow_mul-n : goal.overflow_mul-n
-overflow_mul-n c = omega (arith, width_in _ (in-limits (append_layer _ _ _ _ _ _ ((let r : let a = c.args in let r = a.«record» in lowest (lent_refusals r (length a.cells.now) (length a.scales.now) ++ append_refusals r.shape a.layer (length_of r a.layer) (length a.keys.now) (length a.values.now)) ≡ 0 = still_passed c.number.ensures c.append_reply-reply.ensures c.if-number-ne0.false in r)))))
+overflow_mul-n c = omega (arith, width_in _ (in-limits (append_layer _ _ _ _ _ _ (still_passed c.number.ensures c.append_reply-reply.ensures c.if-number-ne0.false))))
 
 pub nonzero_div-n : goal.nonzero_div-n
-nonzero_div-n c = (width_in _ (in-limits (append_layer _ _ _ _ _ _ ((let r : let a = c.args in let r = a.«record» in lowest (lent_refusals r (length a.cells.now) (length a.scales.now) ++ append_refusals r.shape a.layer (length_of r a.layer) (length a.keys.now) (length a.values.now)) ≡ 0 = still_passed c.number.ensures c.append_reply-reply.ensures c.if-number-ne0.false in r))))).0
+nonzero_div-n c = (width_in _ (in-limits (append_layer _ _ _ _ _ _ (still_passed c.number.ensures c.append_reply-reply.ensures c.if-number-ne0.false)))).0
 
 pub overflow_cast-n-3 : goal.overflow_cast-n-3
 overflow_cast-n-3 c =
-    let z = (let r : let a = c.args in let r = a.«record» in lowest (lent_refusals r (length a.cells.now) (length a.scales.now) ++ append_refusals r.shape a.layer (length_of r a.layer) (length a.keys.now) (length a.values.now)) ≡ 0 = still_passed c.number.ensures c.append_reply-reply.ensures c.if-number-ne0.false in r) in
+    let z = still_passed c.number.ensures c.append_reply-reply.ensures c.if-number-ne0.false in
     omega (arith, append_room _ _ _ _ _ _ z, (limits_facts _ (in-limits (append_layer _ _ _ _ _ _ z))).capacity_in)
 
 pub overflow_add-len : goal.overflow_add-len
 overflow_add-len c =
-    let z = (let r : let a = c.args in let r = a.«record» in lowest (lent_refusals r (length a.cells.now) (length a.scales.now) ++ append_refusals r.shape a.layer (length_of r a.layer) (length a.keys.now) (length a.values.now)) ≡ 0 = still_passed c.number.ensures c.append_reply-reply.ensures c.if-number-ne0.false in r) in
+    let z = still_passed c.number.ensures c.append_reply-reply.ensures c.if-number-ne0.false in
     omega (arith, c.length_of-len.ensures, append_room _ _ _ _ _ _ z, (limits_facts _ (in-limits (append_layer _ _ _ _ _ _ z))).capacity_in)
 
 pub with_length-after-requires : goal.with_length-after-requires
-with_length-after-requires c = in_record (append_layer _ _ _ _ _ _ ((let r : let a = c.args in let r = a.«record» in lowest (lent_refusals r (length a.cells.now) (length a.scales.now) ++ append_refusals r.shape a.layer (length_of r a.layer) (length a.keys.now) (length a.values.now)) ≡ 0 = still_passed c.number.ensures c.append_reply-reply.ensures c.if-number-ne0.false in r)))
+with_length-after-requires c = in_record (append_layer _ _ _ _ _ _ (still_passed c.number.ensures c.append_reply-reply.ensures c.if-number-ne0.false))
 
 pub returns : goal.returns
 unfolding append_of
 returns c =
-    let g = c.before.before.before.before in
-    let h = g.before.before.before in
-    let k = h.before.before.before.before in
-    let a = k.args in
-    let e = h.length_of-len.ensures in
-    call_done _ k.append_reply-reply.ensures k.number.ensures _ k.if-number-ne0.false
-    (store_alike (h.with_length-after.ensures ∙ rw e)
-    (append_left a.«record» (buffers a.cells.now a.scales.now) a.layer a.keys.now a.values.now ((let r : let a = k.args in let r = a.«record» in lowest (lent_refusals r (length a.cells.now) (length a.scales.now) ++ append_refusals r.shape a.layer (length_of r a.layer) (length a.keys.now) (length a.values.now)) ≡ 0 = still_passed k.number.ensures k.append_reply-reply.ensures k.if-number-ne0.false in r)) e g.append_rows.ensures))
+    let a = c.args in
+    let e = c.length_of-len.ensures in
+    call_done _ c.append_reply-reply.ensures c.number.ensures _ c.if-number-ne0.false
+    (store_alike (c.with_length-after.ensures ∙ rw e)
+    (append_left a.«record» (buffers a.cells.now a.scales.now) a.layer a.keys.now a.values.now (still_passed c.number.ensures c.append_reply-reply.ensures c.if-number-ne0.false) e c.append_rows.ensures))

@@ -35,10 +35,8 @@ nonzero_rem-whole c = ((let r : let s = c.args.«record».shape in (1 ≤ width 
 pub returns : goal.returns
 unfolding lowest
 returns c =
-    let g = c.before.before.before.before.before in
-    let k = g.before.before.before in
-    let a = k.args in
+    let a = c.args in
     let r = a.«record» in
-    first_passed (lent_refusals r a.cells a.scales) k.store_reply-first.ensures k.number.ensures
-    (append_refusals r.shape a.layer (length_of r a.layer) (length a.keys.now) (length a.values.now)) refl k.if-number-ne0.false
-    (rw (c.refuse.ensures, c.refuse-size.ensures, c.refuse-full.ensures, g.length_of.ensures))
+    first_passed (lent_refusals r a.cells a.scales) c.store_reply-first.ensures c.number.ensures
+    (append_refusals r.shape a.layer (length_of r a.layer) (length a.keys.now) (length a.values.now)) refl c.if-number-ne0.false
+    (rw (c.refuse.ensures, c.refuse-size.ensures, c.refuse-full.ensures, c.length_of.ensures))

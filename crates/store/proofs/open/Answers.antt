@@ -14,12 +14,9 @@ returns-then-number-ne0 c = rw c.not_open.ensures (call_refused _ c.room_reply-r
 pub returns : goal.returns
 unfolding open_of
 returns c =
-    let g = c.before.before.before.before in
-    let h = g.before.before.before in
-    let k = h.before.before in
-    let a = k.args in
-    let z = h.if-number-ne0.false in
-    call_done _ k.room_reply-reply.ensures k.number.ensures _ z
-    (store_alike h.new_record-after.ensures
-    (zeros_left a.shape (buffers a.cells.now a.scales.now) (still_passed k.number.ensures k.room_reply-reply.ensures z)
-    g.clear_all.ensures.0 g.clear_all.ensures.1))
+    let a = c.args in
+    let z = c.if-number-ne0.false in
+    call_done _ c.room_reply-reply.ensures c.number.ensures _ z
+    (store_alike c.new_record-after.ensures
+    (zeros_left a.shape (buffers a.cells.now a.scales.now) (still_passed c.number.ensures c.room_reply-reply.ensures z)
+    c.clear_all.ensures.0 c.clear_all.ensures.1))

@@ -10,16 +10,15 @@ use Rattle.store.proofs.read_reply.Goals as goal
 pub returns : goal.returns
 unfolding lowest
 returns c =
-    let k = c.before.before.before in
-    let a = k.args in
+    let a = c.args in
     let r = a.«record» in
     c.first_of.ensures
     ∙ first_lowest (lent_refusals r a.cells a.scales) (read_refusals r.shape a.layer (length_of r a.layer) a.side a.head a.position a.out) refl
-    k.store_reply.ensures
+    c.store_reply.ensures
     (rw (
       c.refuse.ensures,
-      k.refuse-block.ensures,
-      k.refuse-size.ensures,
-      k.refuse-there.ensures,
-      k.length_of.ensures,
+      c.refuse-block.ensures,
+      c.refuse-size.ensures,
+      c.refuse-there.ensures,
+      c.length_of.ensures,
     ))

@@ -13,12 +13,9 @@ use Rattle.store.proofs.read_row.Goals as goal
 pub returns-then-number-eq0 : goal.returns-then-number-eq0
 unfolding read_of
 returns-then-number-eq0 c =
-    let g = c.before.before in
-    let h = g.before.before.before.before in
-    let k = h.before in
-    let a = k.args in
-    call_done _ k.read_reply-reply.ensures k.number.ensures _ k.if-number-eq0.true
-    (row_read a.cells.now a.scales.now a.out.now ((let r : let a = k.args in BlockIn a.«record» a.layer a.side a.head a.position 1 (length a.out.now) (length a.cells.now) (length a.scales.now) = row_there _ _ _ _ _ _ _ _ (still_passed k.number.ensures k.read_reply-reply.ensures k.if-number-eq0.true) in r)) h.span_of-span.ensures g.get_row.ensures)
+    let a = c.args in
+    call_done _ c.read_reply-reply.ensures c.number.ensures _ c.if-number-eq0.true
+    (row_read a.cells.now a.scales.now a.out.now ((row_there _ _ _ _ _ _ _ _ (still_passed c.number.ensures c.read_reply-reply.ensures c.if-number-eq0.true))) c.span_of-span.ensures c.get_row.ensures)
 
 pub returns-else-number-eq0 : goal.returns-else-number-eq0
 unfolding read_of

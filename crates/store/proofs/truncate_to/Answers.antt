@@ -16,16 +16,13 @@ unfolding truncate_of
 returns-then-number-ne0 c = call_refused _ c.truncate_reply-reply.ensures c.number.ensures _ c.if-number-ne0.true
 
 pub with_length-after-requires : goal.with_length-after-requires
-with_length-after-requires c = in_record (layer_there _ _ _ _ [] refl ((let r : let a = c.args in lowest (lent_refusals a.«record» (length a.cells.now) (length a.scales.now) ++ remove_refusals a.«record».shape a.layer) ≡ 0 = still_passed c.number.ensures c.truncate_reply-reply.ensures c.if-number-ne0.false in r)))
+with_length-after-requires c = in_record (layer_there _ _ _ _ [] refl (still_passed c.number.ensures c.truncate_reply-reply.ensures c.if-number-ne0.false))
 
 pub returns : goal.returns
 unfolding truncate_of
 returns c =
-    let g = c.before.before.before.before in
-    let h = g.before.before.before in
-    let k = h.before.before.before in
-    let a = k.args in
-    let e = h.length_of-len.ensures in
-    call_done _ k.truncate_reply-reply.ensures k.number.ensures _ k.if-number-ne0.false
-    (store_alike (h.with_length-after.ensures ∙ rw (h.smaller.ensures, e))
-    (remove_left a.«record» (buffers a.cells.now a.scales.now) a.layer a.t ((let r : let a = k.args in lowest (lent_refusals a.«record» (length a.cells.now) (length a.scales.now) ++ remove_refusals a.«record».shape a.layer) ≡ 0 = still_passed k.number.ensures k.truncate_reply-reply.ensures k.if-number-ne0.false in r)) e g.remove_rows.ensures))
+    let a = c.args in
+    let e = c.length_of-len.ensures in
+    call_done _ c.truncate_reply-reply.ensures c.number.ensures _ c.if-number-ne0.false
+    (store_alike (c.with_length-after.ensures ∙ rw (c.smaller.ensures, e))
+    (remove_left a.«record» (buffers a.cells.now a.scales.now) a.layer a.t (still_passed c.number.ensures c.truncate_reply-reply.ensures c.if-number-ne0.false) e c.remove_rows.ensures))

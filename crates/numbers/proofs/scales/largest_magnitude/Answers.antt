@@ -4,7 +4,7 @@ use Rattle.numbers.specs.Word.{float}
 use Rattle.numbers.specs.Scale.{magnitude, larger}
 use Rattle.numbers.proofs.Largest.{unsigned, start, turn, end, larger_yes, larger_no}
 use Rattle.numbers.proofs.scales.largest_magnitude.Goals as goal
-use Rattle.numbers.proofs.scales.largest_magnitude.Goals.{then-most-x, else-most-x}
+use Rattle.numbers.proofs.scales.largest_magnitude.Goals.{then-larger, else-larger}
 
 pub loop-i-init : goal.loop-i-init
 loop-i-init c = (search rules, start _)
@@ -15,8 +15,8 @@ loop-i-preserved c =
     let i = c.loop-i.i in
     let most = c.loop-i.most in
     let seen : c.word_to_f32-x.result ≡ magnitude (float (get_or run i 0)) = c.word_to_f32-x.ensures ∙ unsigned (get_or run i 0) in
-    let next : c.if-most-x.most ≡ larger most c.word_to_f32-x.result =
-    elim c.if-most-x.branch [ then-most-x w ↦ w.most-is ∙ larger_yes _ _ w.if-most-x.true | else-most-x w ↦ w.most-is ∙ larger_no _ _ w.if-most-x.false ] in
+    let next : c.if-larger.most ≡ larger most c.word_to_f32-x.result =
+    elim c.if-larger.branch [ then-larger w ↦ w.most-is ∙ larger_yes _ _ w.if-larger.true | else-larger w ↦ w.most-is ∙ larger_no _ _ w.if-larger.false ] in
     (search rules, turn run i most _ (search rules) (next ∙ ap (larger most) seen) c.loop-i.invariant.1)
 
 pub returns : goal.returns

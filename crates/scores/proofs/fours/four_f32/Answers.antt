@@ -1,21 +1,12 @@
 -- Each sum so far is that of its row's numbers passed.
 use mathlib.Core.Path.{◌≡◌}
-use mathlib.Core.List.{List}
-use Prim.Native.Nat.{ℕ, ◌-◌, ◌≤◌}
 use native.Mathlib.Omega.{arith}
 use borrow.Author.Rules.{rules}
-use lib.ListN.{length, get_or}
-use lib.Ieee.{Float, nan, binary32, mul}
+use lib.ListN.{length}
 use Rattle.lists.specs.Chunks.{turns}
-use Rattle.numbers.specs.Word.{float}
-use Rattle.rows.specs.Row.{f32_at}
 use Rattle.attention.specs.Order.{summed, f32_dot}
 use Rattle.attention.proofs.OrderLaws.{summed_next}
 use Rattle.scores.proofs.fours.four_f32.Goals as goal
-
--- the first d numbers of a row
-abbrev so_far : List Float → List ℕ → ℕ → Float
-so_far query cells d = summed d (λ i. mul binary32 (get_or query i nan) (float (f32_at cells i)))
 
 pub loop-d-init : goal.loop-d-init
 unfolding summed turns
@@ -36,4 +27,9 @@ unfolding f32_dot
 returns c =
     let loop = c.loop-d in
     let e : loop.d ≡ length c.args.query.now = omega arith in
-    (rw (loop.invariant.1, e), (rw (loop.invariant.2, e), (rw (loop.invariant.3, e), rw (loop.invariant.4, e))))
+    record {
+      s0_value = rw (loop.invariant.1, e);
+      s1_value = rw (loop.invariant.2, e);
+      s2_value = rw (loop.invariant.3, e);
+      s3_value = rw (loop.invariant.4, e);
+    }

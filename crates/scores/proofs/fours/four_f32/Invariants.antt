@@ -2,16 +2,16 @@
 use mathlib.Core.Path.{◌≡◌}
 use mathlib.Core.List.{List}
 use Prim.Native.Nat.{ℕ, ◌-◌, ◌≤◌}
-use native.Mathlib.Omega.{arith}
-use borrow.Author.Rules.{rules}
 use lib.ListN.{length, get_or}
 use lib.Ieee.{Float, nan, binary32, mul}
-use Rattle.lists.specs.Chunks.{turns}
 use Rattle.numbers.specs.Word.{float}
 use Rattle.rows.specs.Row.{f32_at}
-use Rattle.attention.specs.Order.{summed, f32_dot}
-use Rattle.attention.proofs.OrderLaws.{summed_next}
+use Rattle.attention.specs.Order.{summed}
 use Rattle.scores.proofs.fours.four_f32.Given as goal
+
+-- the first d numbers of a row
+abbrev so_far : List Float → List ℕ → ℕ → Float
+so_far query cells d = summed d (λ i. mul binary32 (get_or query i nan) (float (f32_at cells i)))
 
 abbrev pub invariant-loop-d : goal.invariant-loop-d
 invariant-loop-d l =

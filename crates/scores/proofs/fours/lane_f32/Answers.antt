@@ -1,5 +1,4 @@
 -- The number that is read is the row's.
-use borrow.Author.Rules.{rules}
 use Rattle.scores.proofs.fours.lane_f32.Goals as goal
 
 pub returns : goal.returns

@@ -1,13 +1,9 @@
 -- The sum so far is that of the bytes passed, the low code's product before the high one's.
 use mathlib.Core.Path.{◌≡◌}
 use Prim.Native.Nat.{◌-◌, ◌≤◌}
-use native.Mathlib.Nat.{div-one}
-use native.Mathlib.Omega.{arith}
-use borrow.Author.Rules.{rules}
 use Rattle.lists.specs.Chunks.{turns}
-use Rattle.lists.proofs.Turns.{turns_next}
 use Rattle.numbers.specs.Word.{float}
-use Rattle.attention.specs.Order.{add_byte, group_dot}
+use Rattle.attention.specs.Order.{add_byte}
 use Rattle.scores.proofs.rest.dot_group.Given as goal
 
 abbrev pub invariant-loop-i : goal.invariant-loop-i

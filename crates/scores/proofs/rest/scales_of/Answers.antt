@@ -1,6 +1,5 @@
 -- What is lent is as long as it is said to be.
 use native.Mathlib.Nat.{add-sub_cancel_left}
-use borrow.Author.Rules.{rules}
 use Rattle.scores.proofs.rest.scales_of.Goals as goal
 
 pub returns : goal.returns

@@ -1,12 +1,8 @@
 -- The sum so far is that of the numbers passed.
 use mathlib.Core.Path.{◌≡◌}
-use Prim.Native.Nat.{◌-◌, ◌≤◌}
 use native.Mathlib.Omega.{arith}
-use lib.ListN.{length, get_or}
-use lib.Ieee.{nan, binary32, mul}
+use lib.ListN.{length}
 use Rattle.lists.specs.Chunks.{turns}
-use Rattle.numbers.specs.Word.{float}
-use Rattle.rows.specs.Row.{f32_at}
 use Rattle.attention.specs.Order.{summed, f32_dot}
 use Rattle.attention.proofs.OrderLaws.{summed_next}
 use borrow.Author.Rules.{rules}

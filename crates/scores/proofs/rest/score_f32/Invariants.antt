@@ -1,15 +1,11 @@
 -- The sum so far is that of the numbers passed.
 use mathlib.Core.Path.{◌≡◌}
 use Prim.Native.Nat.{◌-◌, ◌≤◌}
-use native.Mathlib.Omega.{arith}
 use lib.ListN.{length, get_or}
 use lib.Ieee.{nan, binary32, mul}
-use Rattle.lists.specs.Chunks.{turns}
 use Rattle.numbers.specs.Word.{float}
 use Rattle.rows.specs.Row.{f32_at}
-use Rattle.attention.specs.Order.{summed, f32_dot}
-use Rattle.attention.proofs.OrderLaws.{summed_next}
-use borrow.Author.Rules.{rules}
+use Rattle.attention.specs.Order.{summed}
 use Rattle.scores.proofs.rest.score_f32.Given as goal
 
 abbrev pub invariant-loop-d : goal.invariant-loop-d

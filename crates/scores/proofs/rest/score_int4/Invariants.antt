@@ -1,14 +1,9 @@
 -- The total so far is that of the groups passed.
 use mathlib.Core.Path.{◌≡◌}
-use Prim.Native.Nat.{◌-◌, ◌*◌, ◌≤◌}
-use native.Mathlib.Nat.{add-sub_cancel_left}
-use native.Mathlib.Omega.{arith}
-use borrow.Author.Rules.{rules}
+use Prim.Native.Nat.{◌-◌, ◌≤◌}
 use lib.ListN.{length}
-use Rattle.lists.specs.Chunks.{turns}
 use Rattle.attention.specs.Order.{summed}
-use Rattle.attention.proofs.OrderLaws.{summed_next}
-use Rattle.scores.proofs.GroupLaws.{group_term, groups_all}
+use Rattle.scores.proofs.GroupLaws.{group_term}
 use Rattle.scores.proofs.rest.score_int4.Given as goal
 
 abbrev pub invariant-loop-g : goal.invariant-loop-g

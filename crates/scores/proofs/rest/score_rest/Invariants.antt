@@ -1,16 +1,10 @@
 -- The scores passed are those of the positions passed, and what is left is as it was.
-use mathlib.Core.Path.{◌≡◌, refl, ◌∙◌}
+use mathlib.Core.Path.{◌≡◌}
 use mathlib.Core.List.{◌++◌}
 use Prim.Native.Nat.{◌-◌, ◌≤◌}
-use native.Mathlib.Nat.{one-mul}
-use native.Mathlib.Omega.{arith}
-use borrow.Author.Rules.{rules}
 use lib.ListN.{length, drop}
 use Rattle.lists.specs.Chunks.{tab}
-use Rattle.lists.proofs.Tab.{tab-set, tab-done}
-use Rattle.attention.specs.Order.{scores_of}
-use Rattle.attention.specs.Block.{scores_of_block}
-use Rattle.attention.proofs.PartLaws.{score_at, part_inside, part_rows}
+use Rattle.attention.proofs.PartLaws.{score_at}
 use Rattle.scores.proofs.rest.score_rest.Given as goal
 
 abbrev pub invariant-loop-p : goal.invariant-loop-p

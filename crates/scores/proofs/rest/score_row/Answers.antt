@@ -14,9 +14,9 @@ pub returns-in-0 : goal.returns-in-0
 unfolding row_dot scorings
 returns-in-0 c = rw c.in-0.is c.score_f32.ensures
 
-pub returns-in-2 : goal.returns-in-2
-unfolding row_dot scorings
-returns-in-2 c = rw c.in-2.is c.score-int4.ensures
-
 pub returns-in-3 : goal.returns-in-3
-returns-in-3 c = absurd (scored_other c.args.format c.requires.0 (λ e. omega arith) (λ e. omega arith))
+unfolding row_dot scorings
+returns-in-3 c = rw c.in-3.is c.score_int4.ensures
+
+pub returns-in_default : goal.returns-in_default
+returns-in_default c = absurd (scored_other c.args.format c.requires.0 (λ e. omega arith) (λ e. omega arith))

@@ -1,7 +1,6 @@
 -- A code is below 16, so that it is a float, and the difference is exact at each byte.
 use Prim.Native.Nat.{◌/◌, ◌%◌, ◌^◌}
 use native.Mathlib.Omega.{arith}
-use borrow.Author.Rules.{rules}
 use borrow.Author.Tests.{le-leb}
 use denote.Floats.{passes}
 use lib.Ieee.{in_float}

@@ -1,12 +1,10 @@
 -- Each sum so far is that of the bytes passed of its own row, which are whole words.
 use mathlib.Core.Path.{◌≡◌}
-use Prim.Native.Nat.{◌-◌, ◌%◌, ◌≤◌}
 use native.Mathlib.Omega.{arith}
 use borrow.Author.Rules.{rules}
 use Rattle.lists.specs.Chunks.{turns}
 use Rattle.lists.proofs.Turns.{turns_more}
-use Rattle.numbers.specs.Word.{float}
-use Rattle.attention.specs.Order.{add_byte, group_dot}
+use Rattle.attention.specs.Order.{group_dot}
 use Rattle.scores.proofs.words.four_groups.Goals as goal
 
 pub loop-i-init : goal.loop-i-init
@@ -15,15 +13,12 @@ loop-i-init c = search rules
 
 pub loop-i-preserved : goal.loop-i-preserved
 loop-i-preserved c =
-    let third = c.before in
-    let second = third.before in
-    let first = second.before in
-    let inv = first.loop-i.invariant in (
+    let inv = c.loop-i.invariant in (
       omega arith,
       omega arith,
-      turns_more _ 4 _ _ inv.2 first.lane_word.ensures,
-      turns_more _ 4 _ _ inv.3 second.lane_word-in-loop-i.ensures,
-      turns_more _ 4 _ _ inv.4 third.lane_word-in-loop-i-2.ensures,
+      turns_more _ 4 _ _ inv.2 c.lane_word.ensures,
+      turns_more _ 4 _ _ inv.3 c.lane_word-in-loop-i.ensures,
+      turns_more _ 4 _ _ inv.4 c.lane_word-in-loop-i-2.ensures,
       turns_more _ 4 _ _ inv.5 c.lane_word-in-loop-i-3.ensures,
     )
 

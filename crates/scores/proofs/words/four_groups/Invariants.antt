@@ -1,12 +1,9 @@
 -- Each sum so far is that of the bytes passed of its own row, which are whole words.
 use mathlib.Core.Path.{◌≡◌}
 use Prim.Native.Nat.{◌-◌, ◌%◌, ◌≤◌}
-use native.Mathlib.Omega.{arith}
-use borrow.Author.Rules.{rules}
 use Rattle.lists.specs.Chunks.{turns}
-use Rattle.lists.proofs.Turns.{turns_more}
 use Rattle.numbers.specs.Word.{float}
-use Rattle.attention.specs.Order.{add_byte, group_dot}
+use Rattle.attention.specs.Order.{add_byte}
 use Rattle.scores.proofs.words.four_groups.Given as goal
 
 abbrev pub invariant-loop-i : goal.invariant-loop-i

@@ -1,12 +1,9 @@
 -- Each total so far is that of the groups passed of its own row.
 use mathlib.Core.Path.{◌≡◌}
-use Prim.Native.Nat.{◌-◌, ◌*◌, ◌≤◌}
-use native.Mathlib.Omega.{arith}
-use borrow.Author.Rules.{rules}
+use Prim.Native.Nat.{◌-◌, ◌≤◌}
 use lib.ListN.{length}
-use Rattle.lists.specs.Chunks.{turns}
 use Rattle.attention.specs.Order.{summed}
-use Rattle.scores.proofs.GroupLaws.{group_term, group_turn, groups_all}
+use Rattle.scores.proofs.GroupLaws.{group_term}
 use Rattle.scores.proofs.words.four_int4.Given as goal
 
 abbrev pub invariant-loop-g : goal.invariant-loop-g

@@ -1,6 +1,5 @@
 -- The parts lent are group g of the query and of each row.
 use native.Mathlib.Nat.{add-sub_cancel_left}
-use borrow.Author.Rules.{rules}
 use Rattle.scores.proofs.words.groups_at.Goals as goal
 
 pub returns : goal.returns

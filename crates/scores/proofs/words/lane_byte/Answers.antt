@@ -1,5 +1,4 @@
 -- The two codes are those at bit `from` and 4 bits on.
-use borrow.Author.Rules.{rules}
 use Rattle.scores.proofs.words.lane_byte.Goals as goal
 
 pub returns : goal.returns

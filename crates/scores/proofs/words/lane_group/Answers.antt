@@ -1,5 +1,4 @@
 -- The word is the group's scale.
-use borrow.Author.Rules.{rules}
 use Rattle.scores.proofs.words.lane_group.Goals as goal
 
 pub returns : goal.returns

@@ -2,7 +2,6 @@
 use mathlib.Core.Path.{◌≡◌, refl}
 use Prim.Native.Nat.{ℕ, ◌<◌}
 use native.Mathlib.Omega.{arith}
-use borrow.Author.Rules.{rules}
 use lib.ListN.{get_or}
 use Rattle.lists.specs.Bytes.{from_little}
 use Rattle.lists.specs.Chunks.{turns, part}
@@ -13,19 +12,14 @@ use Rattle.scores.proofs.words.lane_word.Goals as goal
 pub returns : goal.returns
 unfolding turns
 returns c =
-    let third = c.before.before.before in
-    let second = third.before.before.before in
-    let first = second.before.before.before in
-    let whole = first.before.before.before in
-    let known = whole.before.before in
-    let args = known.args in
+    let args = c.args in
     let query = args.query.now in
     let bytes = args.bytes.now in
     let i = args.i in
     let x = args.sum in
-    let below : (n : ℕ) → get_or bytes n 0 < 256 = λ n. (known.shared_slice_known-2-1.given n).fits in
-    let word : whole.word_of-word.result ≡ from_little (part i 4 bytes) = word_lent bytes i whole.word_of-word.ensures (omega arith) in
-    let a = word_turn bytes i below query x word 0 (omega arith) refl first.lane_byte-a.ensures (omega arith) (omega arith) in
-    let b = word_turn bytes i below query x word 1 (omega arith) a second.lane_byte-b.ensures refl (omega arith) in
-    let d = word_turn bytes i below query x word 2 (omega arith) b third.lane_byte-c.ensures refl (omega arith) in
+    let below : (n : ℕ) → get_or bytes n 0 < 256 = λ n. (c.type_inv.bytes n).fits in
+    let word : c.word_of-word.result ≡ from_little (part i 4 bytes) = word_lent bytes i c.word_of-word.ensures (omega arith) in
+    let a = word_turn bytes i below query x word 0 (omega arith) refl c.lane_byte-a.ensures (omega arith) (omega arith) in
+    let b = word_turn bytes i below query x word 1 (omega arith) a c.lane_byte-b.ensures refl (omega arith) in
+    let d = word_turn bytes i below query x word 2 (omega arith) b c.lane_byte-c.ensures refl (omega arith) in
     word_turn bytes i below query x word 3 (omega arith) d c.lane_byte.ensures refl (omega arith)
