@@ -1,4 +1,4 @@
-// The C boundary: numbers and slices in, the paper's numbers out. A slice is a pointer and then a length.
+// The calls as C has them: numbers and slices in, the paper's numbers out.
 #![tactic(auto)]
 
 pub(crate) mod records;
@@ -19,48 +19,42 @@ use replies::{Reply, number};
 use shapes::{Shape, is_within, need_of};
 
 // The scale of an INT8 head.
-#[unsafe(no_mangle)]
-pub extern "C" fn kv_int8_scale(run: &[u32]) -> f32
+pub fn kv_int8_scale(run: &[u32]) -> f32
     ensures { result ≡ scale_of 127 run.now }
 {
     scales::compute_int8_scale(run)
 }
 
 // The scale of an INT4 group.
-#[unsafe(no_mangle)]
-pub extern "C" fn kv_int4_scale(run: &[u32]) -> f32
+pub fn kv_int4_scale(run: &[u32]) -> f32
     ensures { result ≡ scale_of 7 run.now }
 {
     scales::compute_int4_scale(run)
 }
 
 // The INT8 code of a number.
-#[unsafe(no_mangle)]
-pub extern "C" fn kv_quantize_i8(x: u32, scale: f32) -> u8
+pub fn kv_quantize_i8(x: u32, scale: f32) -> u8
     ensures { result ≡ code8 x scale }
 {
     codes::quantize_i8(x, scale)
 }
 
 // The INT4 code of a number.
-#[unsafe(no_mangle)]
-pub extern "C" fn kv_quantize_i4(x: u32, scale: f32) -> u8
+pub fn kv_quantize_i4(x: u32, scale: f32) -> u8
     ensures { result ≡ code4 x scale }
 {
     codes::quantize_i4(x, scale)
 }
 
 // The word that a stored INT8 byte reads as.
-#[unsafe(no_mangle)]
-pub extern "C" fn kv_dequantize_i8(code: u8, scale: f32) -> u32
+pub fn kv_dequantize_i8(code: u8, scale: f32) -> u32
     ensures { result ≡ word (read8 code scale) }
 {
     words::f32_to_word(codes::dequantize_i8(code, scale))
 }
 
 // Codes 32 numbers into the first 16 bytes, or answers 7.
-#[unsafe(no_mangle)]
-pub extern "C" fn kv_pack_i4_group(src: &[u32], scale: f32, dst: &mut [u8]) -> u32
+pub fn kv_pack_i4_group(src: &[u32], scale: f32, dst: &mut [u8]) -> u32
     ensures reply { result ≡ group_reply src.now dst.old }
     ensures bytes { dst.new ≡ pack_into src.now scale dst.old }
 {
@@ -68,8 +62,7 @@ pub extern "C" fn kv_pack_i4_group(src: &[u32], scale: f32, dst: &mut [u8]) -> u
 }
 
 // Reads 32 numbers out of the first 16 bytes, or answers 7.
-#[unsafe(no_mangle)]
-pub extern "C" fn kv_unpack_i4_group(packed: &[u8], scale: f32, dst: &mut [u32]) -> u32
+pub fn kv_unpack_i4_group(packed: &[u8], scale: f32, dst: &mut [u32]) -> u32
     ensures reply { result ≡ group_reply dst.old packed.now }
     ensures words { dst.new ≡ unpack_into packed.now scale dst.old }
 {
@@ -77,24 +70,21 @@ pub extern "C" fn kv_unpack_i4_group(packed: &[u8], scale: f32, dst: &mut [u32])
 }
 
 // The BF16 pattern of a word.
-#[unsafe(no_mangle)]
-pub extern "C" fn kv_f32_to_bf16(x: u32) -> u16
+pub fn kv_f32_to_bf16(x: u32) -> u16
     ensures { result ≡ bf16 x }
 {
     words::f32_to_bf16(x)
 }
 
 // The word of a BF16 pattern.
-#[unsafe(no_mangle)]
-pub extern "C" fn kv_bf16_to_f32(half: u16) -> u32
+pub fn kv_bf16_to_f32(half: u16) -> u32
     ensures { result ≡ from_bf16 half }
 {
     words::bf16_to_f32(half)
 }
 
 // The lengths of the two buffers that a shape needs, in `cells` and `scales`.
-#[unsafe(no_mangle)]
-pub extern "C" fn kv_need(
+pub fn kv_need(
     format: u32,
     layers: u32,
     heads: u32,
@@ -123,8 +113,7 @@ pub extern "C" fn kv_need(
 }
 
 // Makes an empty store in buffers of exactly the shape's need.
-#[unsafe(no_mangle)]
-pub extern "C" fn kv_open(
+pub fn kv_open(
     rec: &mut [u32; 134],
     format: u32,
     layers: u32,
@@ -151,8 +140,7 @@ pub extern "C" fn kv_open(
 }
 
 // Appends keys and values of n positions to a layer.
-#[unsafe(no_mangle)]
-pub extern "C" fn kv_append(
+pub fn kv_append(
     rec: &mut [u32; 134],
     cells: &mut [u8],
     scales: &mut [u32],
@@ -170,8 +158,7 @@ pub extern "C" fn kv_append(
 }
 
 // Keeps the first `t` positions of a layer.
-#[unsafe(no_mangle)]
-pub extern "C" fn kv_truncate(
+pub fn kv_truncate(
     rec: &mut [u32; 134],
     cells: &mut [u8],
     scales: &mut [u32],
@@ -188,8 +175,7 @@ pub extern "C" fn kv_truncate(
 }
 
 // Adds to the sequence number.
-#[unsafe(no_mangle)]
-pub extern "C" fn kv_advance(rec: &mut [u32; 134], count: u32) -> u32
+pub fn kv_advance(rec: &mut [u32; 134], count: u32) -> u32
     ensures { replied result (record_from rec.new) ≡ advance_of (record_from rec.old) count }
 {
     let answer = store::advance_seq_len(record_of(*rec), count);
@@ -199,8 +185,7 @@ pub extern "C" fn kv_advance(rec: &mut [u32; 134], count: u32) -> u32
 }
 
 // The positions of a layer, in `count`.
-#[unsafe(no_mangle)]
-pub extern "C" fn kv_cached_len(rec: &[u32; 134], layer: u32, count: &mut u64) -> u32
+pub fn kv_cached_len(rec: &[u32; 134], layer: u32, count: &mut u64) -> u32
     ensures { replied result count.new ≡ cached_len_of (record_from rec.now) layer }
 {
     let answer = store::cached_len(record_of(*rec), layer);
@@ -210,8 +195,7 @@ pub extern "C" fn kv_cached_len(rec: &[u32; 134], layer: u32, count: &mut u64) -
 }
 
 // The bytes of all rows, in `count`.
-#[unsafe(no_mangle)]
-pub extern "C" fn kv_memory_bytes(rec: &[u32; 134], count: &mut u64) -> u32
+pub fn kv_memory_bytes(rec: &[u32; 134], count: &mut u64) -> u32
     ensures { replied result count.new ≡ memory_bytes_of (record_from rec.now) }
 {
     let answer = store::memory_bytes(record_of(*rec));
@@ -221,8 +205,7 @@ pub extern "C" fn kv_memory_bytes(rec: &[u32; 134], count: &mut u64) -> u32
 }
 
 // Reads one position of a side and head into `out`.
-#[unsafe(no_mangle)]
-pub extern "C" fn kv_read_row(
+pub fn kv_read_row(
     rec: &[u32; 134],
     cells: &[u8],
     scales: &[u32],
@@ -248,8 +231,7 @@ pub extern "C" fn kv_read_row(
 }
 
 // Scores as many positions of a head's keys as `out` has places, under a query and a scale.
-#[unsafe(no_mangle)]
-pub extern "C" fn kv_scores(
+pub fn kv_scores(
     rec: &[u32; 134],
     cells: &[u8],
     scales: &[u32],
@@ -275,8 +257,7 @@ pub extern "C" fn kv_scores(
 }
 
 // Sums as many positions of a head's values as there are weights.
-#[unsafe(no_mangle)]
-pub extern "C" fn kv_sums(
+pub fn kv_sums(
     rec: &[u32; 134],
     cells: &[u8],
     scales: &[u32],

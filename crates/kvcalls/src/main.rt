@@ -1,17 +1,18 @@
 // Plays the call file on standard input, and prints a line for each record.
 #![tactic(auto)]
 
-use libc::STDOUT_FILENO;
+use std::io;
 
-fn main() {
-    let mut space = io::large_buffer();
-    let n = io::read_full(0, &mut space);
-    start(&space[..n]);
+fn main(rt: HostRuntime) -> io::Result<()> {
+    let mut space = [0u8; 65_536];
+    let n = reading::read_full(&mut rt.reader(), &mut space);
+    start(&rt, &space[..n])
 }
 
-fn start(file: &[u8]) {
+#[tactic(auto, using(printing::proofs::LaidLaws::laid_in))]
+fn start(rt: &impl Print, file: &[u8]) -> io::Result<()> {
     let mut out = [0u8; 4_194_304];
     let played = replay::play(file, &mut out);
     let n = played.count;
-    io::write_all(STDOUT_FILENO, &out[..n]);
+    rt.write_all(&out[..n])
 }

@@ -2,55 +2,67 @@
 // last store reports.
 #![tactic(auto)]
 
-use libc::STDOUT_FILENO;
 use replay::{Played, play, report_line};
+use std::fs::File;
+use std::io;
+use std::rt::Files;
 
-fn main() {
-    let mut space = io::large_buffer();
-    let n = io::read_full(0, &mut space);
-    play_named(&space[..n]);
+fn main(rt: HostRuntime) -> io::Result<()> {
+    let mut space = [0u8; 65_536];
+    let n = reading::read_full(&mut rt.reader(), &mut space);
+    play_named(&rt, &space[..n])
 }
 
 // One name after the other.
-fn play_named(names: &[u8]) {
+#[tactic(auto, using(test_lines::proofs::LineLaws::line_in))]
+fn play_named(rt: &(impl Files + Print), names: &[u8]) -> io::Result<()> {
     let mut at = 0;
     while at < names.len() {
         let n = test_lines::line_length(names, at);
-        name(&names[at..at + n]);
+        name(rt, &names[at..at + n])?;
         at = at + n + 1;
     }
+    Ok(())
 }
 
-fn name(path: &[u8]) {
-    io::write_all(STDOUT_FILENO, path);
-    io::write_all(STDOUT_FILENO, b"\n");
-    let fd = os::open_read(path);
-    if fd < 0 {
-        io::write_all(STDOUT_FILENO, b"missing\n");
-        return;
+// A name that is no text is no file's.
+fn name(rt: &(impl Files + Print), path: &[u8]) -> io::Result<()> {
+    rt.write_all(path)?;
+    rt.write_all(b"\n")?;
+    match str::from_utf8(path) {
+        Ok(text) => play_at(rt, text),
+        Err(_) => rt.write_all(b"missing\n"),
     }
-    let mut space = io::large_buffer();
-    let n = io::read_full(fd, &mut space);
-    libc::close(fd);
-    start(&space[..n]);
 }
 
-fn start(file: &[u8]) {
+fn play_at(rt: &(impl Files + Print), path: &str) -> io::Result<()> {
+    match File::open(rt, path) {
+        Ok(mut file) => {
+            let mut space = [0u8; 65_536];
+            let n = reading::read_full(&mut file, &mut space);
+            start(rt, &space[..n])
+        }
+        Err(_) => rt.write_all(b"missing\n"),
+    }
+}
+
+#[tactic(auto, using(printing::proofs::LaidLaws::laid_in))]
+fn start(rt: &impl Print, file: &[u8]) -> io::Result<()> {
     let mut out = [0u8; 4_194_304];
     let played = play(file, &mut out);
     let n = played.count;
-    io::write_all(STDOUT_FILENO, &out[..n]);
+    rt.write_all(&out[..n])?;
     if file.len() <= 16_384 {
-        tell(played);
+        tell(rt, played)?;
     }
+    Ok(())
 }
 
 // Where the file was left, and a report of its store.
-fn tell(played: Played) {
-    io::write_all(STDOUT_FILENO, b"replay ");
-    io::print_decimal(STDOUT_FILENO, played.place as u64);
-    io::write_all(STDOUT_FILENO, b" ");
+fn tell(rt: &impl Print, played: Played) -> io::Result<()> {
+    let place = played.place;
+    print!(rt; "replay {place} ")?;
     let mut out = [0u8; 2048];
     let n = report_line(played.after, &mut out, 0);
-    io::write_all(STDOUT_FILENO, &out[..n]);
+    rt.write_all(&out[..n])
 }

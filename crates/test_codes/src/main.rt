@@ -2,34 +2,32 @@
 // run three lines tell its INT8 codes, its first INT4 group and its BF16 patterns, and what each reads as.
 #![tactic(auto)]
 
-use libc::STDOUT_FILENO;
-
 mod input;
 mod show;
 
-fn main() {
-    let mut space = io::large_buffer();
-    let n = io::read_full(0, &mut space);
-    play(&space[..n]);
+use std::io;
+
+fn main(rt: HostRuntime) -> io::Result<()> {
+    let mut space = [0u8; 65_536];
+    let n = reading::read_full(&mut rt.reader(), &mut space);
+    play(&rt, &space[..n])
 }
 
 // One run after the other, up to the end or to the first line that is no run.
-fn play(text: &[u8]) {
+fn play(rt: &impl Print, text: &[u8]) -> io::Result<()> {
     let mut words = [0u32; 64];
     let mut at = 0;
     while at < text.len() {
         let line = input::run_at(text, at, &mut words);
         if line.next <= at {
-            bad(at);
-            return;
+            return bad(rt, at);
         }
-        show::run(&words, line.count);
+        show::run(rt, &words, line.count)?;
         at = line.next;
     }
+    Ok(())
 }
 
-fn bad(at: usize) {
-    io::write_all(STDOUT_FILENO, b"bad at ");
-    io::print_decimal(STDOUT_FILENO, at as u64);
-    io::write_all(STDOUT_FILENO, b"\n");
+fn bad(rt: &impl Print, at: usize) -> io::Result<()> {
+    println!(rt; "bad at {at}")
 }

@@ -1,6 +1,6 @@
 // What is printed of a run.
-use libc::STDOUT_FILENO;
 use numbers::{codes, scales, words};
+use std::io;
 
 // What is shown of each number.
 #[derive(Clone, Copy)]
@@ -13,99 +13,96 @@ enum Shown {
 }
 
 // The three lines of the first `count` words.
-pub(crate) fn run(words: &[u32; 64], count: usize) {
-    lines(words, count);
+pub(crate) fn run(rt: &impl Print, words: &[u32; 64], count: usize) -> io::Result<()> {
+    lines(rt, words, count)
 }
 
-fn lines(words: &[u32], count: usize) {
+fn lines(rt: &impl Print, words: &[u32], count: usize) -> io::Result<()> {
     if words.len() < count {
-        return;
+        return Ok(());
     }
     let run = &words[0..count];
-    int8(run);
-    int4(run);
-    bf16(run);
+    int8(rt, run)?;
+    int4(rt, run)?;
+    bf16(rt, run)
 }
 
-fn int8(run: &[u32]) {
+fn int8(rt: &impl Print, run: &[u32]) -> io::Result<()> {
     let scale = scales::compute_int8_scale(run);
-    io::write_all(STDOUT_FILENO, b"int8 scale");
-    field(words::f32_to_word(scale), 8);
-    io::write_all(STDOUT_FILENO, b" codes");
-    fields(run, scale, Shown::Code8);
-    io::write_all(STDOUT_FILENO, b" reads");
-    fields(run, scale, Shown::Read8);
-    io::write_all(STDOUT_FILENO, b"\n");
+    rt.write_all(b"int8 scale")?;
+    field(rt, words::f32_to_word(scale), 8)?;
+    rt.write_all(b" codes")?;
+    fields(rt, run, scale, Shown::Code8)?;
+    rt.write_all(b" reads")?;
+    fields(rt, run, scale, Shown::Read8)?;
+    rt.write_all(b"\n")
 }
 
-fn int4(run: &[u32]) {
+fn int4(rt: &impl Print, run: &[u32]) -> io::Result<()> {
     if run.len() < 32 {
-        io::write_all(STDOUT_FILENO, b"int4 no 7\n");
-        return;
+        return rt.write_all(b"int4 no 7\n");
     }
     let scale = scales::compute_int4_scale(&run[0..32]);
-    io::write_all(STDOUT_FILENO, b"int4 scale");
-    field(words::f32_to_word(scale), 8);
-    group(run, scale);
+    rt.write_all(b"int4 scale")?;
+    field(rt, words::f32_to_word(scale), 8)?;
+    group(rt, run, scale)
 }
 
 // The bytes of a run's first group, and what they read as.
-fn group(run: &[u32], scale: f32) {
+fn group(rt: &impl Print, run: &[u32], scale: f32) -> io::Result<()> {
     let mut bytes = [0u8; 16];
     let mut back = [0u32; 32];
     groups::pack_i4_group(run, scale, &mut bytes);
     groups::unpack_i4_group(&bytes, scale, &mut back);
-    io::write_all(STDOUT_FILENO, b" bytes");
-    byte_fields(&bytes);
-    io::write_all(STDOUT_FILENO, b" reads");
-    fields(&back, scale, Shown::Word);
-    io::write_all(STDOUT_FILENO, b"\n");
+    rt.write_all(b" bytes")?;
+    byte_fields(rt, &bytes)?;
+    rt.write_all(b" reads")?;
+    fields(rt, &back, scale, Shown::Word)?;
+    rt.write_all(b"\n")
 }
 
-fn bf16(run: &[u32]) {
-    io::write_all(STDOUT_FILENO, b"bf16 halves");
-    fields(run, 1.0, Shown::Half);
-    io::write_all(STDOUT_FILENO, b" reads");
-    fields(run, 1.0, Shown::ReadHalf);
-    io::write_all(STDOUT_FILENO, b"\n");
+fn bf16(rt: &impl Print, run: &[u32]) -> io::Result<()> {
+    rt.write_all(b"bf16 halves")?;
+    fields(rt, run, 1.0, Shown::Half)?;
+    rt.write_all(b" reads")?;
+    fields(rt, run, 1.0, Shown::ReadHalf)?;
+    rt.write_all(b"\n")
 }
 
 // One thing of each number of a run.
-fn fields(run: &[u32], scale: f32, shown: Shown) {
-    let mut i = 0;
-    while i < run.len() {
-        tell(run[i], scale, shown);
-        i += 1;
+fn fields(rt: &impl Print, run: &[u32], scale: f32, shown: Shown) -> io::Result<()> {
+    for x in run {
+        tell(rt, *x, scale, shown)?;
     }
+    Ok(())
 }
 
-fn byte_fields(bytes: &[u8]) {
-    let mut i = 0;
-    while i < bytes.len() {
-        byte_field(bytes[i]);
-        i += 1;
+fn byte_fields(rt: &impl Print, bytes: &[u8]) -> io::Result<()> {
+    for b in bytes {
+        byte_field(rt, *b)?;
     }
+    Ok(())
 }
 
-fn tell(x: u32, scale: f32, shown: Shown) {
+fn tell(rt: &impl Print, x: u32, scale: f32, shown: Shown) -> io::Result<()> {
     match shown {
-        Shown::Code8 => field(codes::quantize_i8(x, scale) as u32, 2),
+        Shown::Code8 => field(rt, codes::quantize_i8(x, scale) as u32, 2),
         Shown::Read8 => field(
+            rt,
             words::f32_to_word(codes::dequantize_i8(codes::quantize_i8(x, scale), scale)),
             8,
         ),
-        Shown::Half => field(words::f32_to_bf16(x) as u32, 4),
-        Shown::ReadHalf => field(words::bf16_to_f32(words::f32_to_bf16(x)), 8),
-        Shown::Word => field(x, 8),
+        Shown::Half => field(rt, words::f32_to_bf16(x) as u32, 4),
+        Shown::ReadHalf => field(rt, words::bf16_to_f32(words::f32_to_bf16(x)), 8),
+        Shown::Word => field(rt, x, 8),
     }
 }
 
-fn byte_field(b: u8) {
-    field(b as u32, 2);
+fn byte_field(rt: &impl Print, b: u8) -> io::Result<()> {
+    field(rt, b as u32, 2)
 }
 
 // A space and a number in hex.
-fn field(n: u32, width: usize) {
-    io::write_all(STDOUT_FILENO, b" ");
-    io::print_hex(STDOUT_FILENO, n as u64, width);
+fn field(rt: &impl Print, n: u32, width: usize) -> io::Result<()> {
+    print!(rt; " {n:0width$x}")
 }

@@ -2,9 +2,12 @@
 ghost use Rattle.std.specs.Prelude.{◌≤◌, ◌<◌};
 
 use crate::{fresh, show};
+use std::io;
 
 // One line after the other. `lent` has the cell bytes and scale words that are lent, `survivors` and `counts` the surviving rows.
+#[tactic(auto, using(test_lines::proofs::LineLaws::line_in))]
 pub(crate) fn play(
+    rt: &impl Print,
     text: &[u8],
     rec: &mut [u32; 134],
     lent: &mut [u32; 2],
@@ -12,16 +15,27 @@ pub(crate) fn play(
     scales: &mut [u32],
     survivors: &mut [u32; 8192],
     counts: &mut [u32; 9],
-) {
+) -> io::Result<()> {
     let mut at = 0;
     while at < text.len() {
         let end = at + test_lines::line_length(text, at);
-        step(&text[at..end], rec, lent, cells, scales, survivors, counts);
+        step(
+            rt,
+            &text[at..end],
+            rec,
+            lent,
+            cells,
+            scales,
+            survivors,
+            counts,
+        )?;
         at = end + 1;
     }
+    Ok(())
 }
 
 fn step(
+    rt: &impl Print,
     line: &[u8],
     rec: &mut [u32; 134],
     lent: &mut [u32; 2],
@@ -29,18 +43,23 @@ fn step(
     scales: &mut [u32],
     survivors: &mut [u32; 8192],
     counts: &mut [u32; 9],
-) {
+) -> io::Result<()> {
     let kind = word(line, 0);
     match kind {
         8 => {
             lent[0] = word(line, 1);
             lent[1] = word(line, 2);
+            Ok(())
         }
-        9..=11 => damage(line, kind, rec, cells, scales),
+        9..=11 => {
+            damage(line, kind, rec, cells, scales);
+            Ok(())
+        }
         _ => {
             let a = smaller(lent[0], cells.len());
             let b = smaller(lent[1], scales.len());
             call(
+                rt,
                 line,
                 kind,
                 rec,
@@ -48,7 +67,7 @@ fn step(
                 &mut scales[0..b],
                 survivors,
                 counts,
-            );
+            )
         }
     }
 }
@@ -84,6 +103,7 @@ pub(crate) fn least(a: usize, b: usize) -> usize
 
 // A call, and what is told of it.
 fn call(
+    rt: &impl Print,
     line: &[u8],
     kind: u32,
     rec: &mut [u32; 134],
@@ -91,20 +111,20 @@ fn call(
     scales: &mut [u32],
     survivors: &mut [u32; 8192],
     counts: &mut [u32; 9],
-) {
+) -> io::Result<()> {
     match kind {
-        5 | 6 => count(line, kind, rec),
-        7 => read(line, rec, cells, scales),
-        12 | 13 => compute(line, kind, rec, cells, scales),
-        14 => fresh::compare(rec, cells, scales, survivors, counts),
+        5 | 6 => count(rt, line, kind, rec),
+        7 => read(rt, line, rec, cells, scales),
+        12 | 13 => compute(rt, line, kind, rec, cells, scales),
+        14 => fresh::compare(rt, rec, cells, scales, survivors, counts),
         _ => {
             let reply = change(line, kind, rec, cells, scales);
             if reply == 0 {
                 fresh::follow(line, kind, rec, survivors, counts);
             }
-            show::reply(reply);
-            show::line_end();
-            show::store(rec, cells, scales);
+            show::reply(rt, reply)?;
+            show::line_end(rt)?;
+            show::store(rt, rec, cells, scales)
         }
     }
 }
@@ -190,25 +210,38 @@ fn append_part(
 }
 
 // A call that counts.
-fn count(line: &[u8], kind: u32, rec: &[u32; 134]) {
+fn count(rt: &impl Print, line: &[u8], kind: u32, rec: &[u32; 134]) -> io::Result<()> {
     let mut n = 0u64;
     let reply = if kind == 5 {
         host::kv_cached_len(rec, word(line, 1), &mut n)
     } else {
         host::kv_memory_bytes(rec, &mut n)
     };
-    show::reply(reply);
-    show::count(n);
-    show::line_end();
+    show::reply(rt, reply)?;
+    show::count(rt, n)?;
+    show::line_end(rt)
 }
 
-fn read(line: &[u8], rec: &[u32; 134], cells: &[u8], scales: &[u32]) {
+fn read(
+    rt: &impl Print,
+    line: &[u8],
+    rec: &[u32; 134],
+    cells: &[u8],
+    scales: &[u32],
+) -> io::Result<()> {
     let mut out = [0xFF80_DEADu32; 256];
-    read_into(line, rec, cells, scales, &mut out);
+    read_into(rt, line, rec, cells, scales, &mut out)
 }
 
 // A row, read into as many places as the line says.
-fn read_into(line: &[u8], rec: &[u32; 134], cells: &[u8], scales: &[u32], out: &mut [u32]) {
+fn read_into(
+    rt: &impl Print,
+    line: &[u8],
+    rec: &[u32; 134],
+    cells: &[u8],
+    scales: &[u32],
+    out: &mut [u32],
+) -> io::Result<()> {
     let n = smaller(word(line, 5), out.len());
     let reply = host::kv_read_row(
         rec,
@@ -220,18 +253,25 @@ fn read_into(line: &[u8], rec: &[u32; 134], cells: &[u8], scales: &[u32], out: &
         word(line, 4),
         &mut out[0..n],
     );
-    show::reply(reply);
-    show::numbers(&out[0..n]);
-    show::line_end();
+    show::reply(rt, reply)?;
+    show::numbers(rt, &out[0..n])?;
+    show::line_end(rt)
 }
 
 // A call that computes: scores or sums of a head.
-fn compute(line: &[u8], kind: u32, rec: &[u32; 134], cells: &[u8], scales: &[u32]) {
+fn compute(
+    rt: &impl Print,
+    line: &[u8],
+    kind: u32,
+    rec: &[u32; 134],
+    cells: &[u8],
+    scales: &[u32],
+) -> io::Result<()> {
     let mut numbers = [0u32; 256];
     let mut given = [0f32; 256];
     let n = numbers_of(line, places_at(kind) + 1, &mut numbers);
     floats_of(&numbers, &mut given);
-    compute_first(line, kind, rec, cells, scales, &given, n);
+    compute_first(rt, line, kind, rec, cells, scales, &given, n)
 }
 
 // The word that says into how many places; the query or the weights come after it.
@@ -252,6 +292,7 @@ fn floats_of(numbers: &[u32; 256], floats: &mut [f32; 256]) {
 
 // The first `n` floats are given.
 fn compute_first(
+    rt: &impl Print,
     line: &[u8],
     kind: u32,
     rec: &[u32; 134],
@@ -259,12 +300,13 @@ fn compute_first(
     scales: &[u32],
     given: &[f32; 256],
     n: u32,
-) {
+) -> io::Result<()> {
     let mut out = [0xFF80_DEADu32; 256];
-    compute_into(line, kind, rec, cells, scales, given, n, &mut out);
+    compute_into(rt, line, kind, rec, cells, scales, given, n, &mut out)
 }
 
 fn compute_into(
+    rt: &impl Print,
     line: &[u8],
     kind: u32,
     rec: &[u32; 134],
@@ -273,13 +315,13 @@ fn compute_into(
     given: &[f32],
     n: u32,
     out: &mut [u32],
-) {
+) -> io::Result<()> {
     let e = smaller(n, given.len());
     let m = smaller(word(line, places_at(kind)), out.len());
     let reply = computed(line, kind, rec, cells, scales, &given[0..e], &mut out[0..m]);
-    show::reply(reply);
-    show::numbers(&out[0..m]);
-    show::line_end();
+    show::reply(rt, reply)?;
+    show::numbers(rt, &out[0..m])?;
+    show::line_end(rt)
 }
 
 fn computed(

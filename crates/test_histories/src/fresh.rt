@@ -4,6 +4,7 @@ ghost use Rattle.std.specs.Prelude.{◌≡◌, ◌+◌, ◌≤◌, length};
 
 use crate::calls::{least, smaller, word};
 use crate::show;
+use std::io;
 
 // What an accepted call makes of the survivors. `counts` has how many numbers a side each layer has, and last
 // whether some did not fit.
@@ -71,20 +72,21 @@ fn product(a: u32, b: u32) -> u32 {
 
 // The store against a fresh one in other memory.
 pub(crate) fn compare(
+    rt: &impl Print,
     rec: &[u32; 134],
     cells: &[u8],
     scales: &[u32],
     survivors: &[u32; 8192],
     counts: &[u32; 9],
-) {
+) -> io::Result<()> {
     if counts[8] != 0 {
-        show::text(b"fresh too large\n");
-        return;
+        return show::text(rt, b"fresh too large\n");
     }
     let mut fresh = [0u32; 134];
     let mut fresh_cells = [0x5Au8; 2048];
     let mut fresh_scales = [0x5A5A_5A5Au32; 256];
     compare_in(
+        rt,
         rec,
         cells,
         scales,
@@ -93,11 +95,12 @@ pub(crate) fn compare(
         &mut fresh,
         &mut fresh_cells,
         &mut fresh_scales,
-    );
+    )
 }
 
 // The fresh store is lent as much as the first.
 fn compare_in(
+    rt: &impl Print,
     rec: &[u32; 134],
     cells: &[u8],
     scales: &[u32],
@@ -106,64 +109,75 @@ fn compare_in(
     fresh: &mut [u32; 134],
     fresh_cells: &mut [u8],
     fresh_scales: &mut [u32],
-) {
+) -> io::Result<()> {
     let a = least(cells.len(), fresh_cells.len());
     let b = least(scales.len(), fresh_scales.len());
-    show::text(b"fresh replies");
+    show::text(rt, b"fresh replies")?;
     fill(
+        rt,
         rec,
         survivors,
         counts,
         fresh,
         &mut fresh_cells[0..a],
         &mut fresh_scales[0..b],
-    );
+    )?;
     tell(
+        rt,
         rec,
         cells,
         scales,
         fresh,
         &fresh_cells[0..a],
         &fresh_scales[0..b],
-    );
+    )
 }
 
 // The first thing that differs.
 fn tell(
+    rt: &impl Print,
     rec: &[u32],
     cells: &[u8],
     scales: &[u32],
     fresh: &[u32],
     fresh_cells: &[u8],
     fresh_scales: &[u32],
-) {
+) -> io::Result<()> {
     if !same_words(rec, fresh, 6) {
-        show::text(b" lengths differ\n");
+        show::text(rt, b" lengths differ\n")
     } else if !same_bytes(cells, fresh_cells) {
-        show::text(b" cells differ\n");
+        show::text(rt, b" cells differ\n")
     } else if !same_words(scales, fresh_scales, 0) {
-        show::text(b" scales differ\n");
+        show::text(rt, b" scales differ\n")
     } else {
-        show::text(b" same\n");
+        show::text(rt, b" same\n")
     }
 }
 
 // Opens a store of the record's shape, and gives each layer its survivors in one call.
 fn fill(
+    rt: &impl Print,
     rec: &[u32; 134],
     survivors: &[u32; 8192],
     counts: &[u32; 9],
     fresh: &mut [u32; 134],
     cells: &mut [u8],
     scales: &mut [u32],
-) {
-    show::decimal(host::kv_open(fresh, rec[0], rec[1], rec[2], rec[3], rec[4], cells, scales));
+) -> io::Result<()> {
+    show::decimal(
+        rt,
+        host::kv_open(fresh, rec[0], rec[1], rec[2], rec[3], rec[4], cells, scales),
+    )?;
     let layers = smaller(rec[1], 8);
     let mut layer = 0;
     while layer < layers {
-        show::decimal(append_survivors(layer, survivors, counts[layer], fresh, cells, scales));
+        show::decimal(
+            rt,
+            append_survivors(layer, survivors, counts[layer], fresh, cells, scales),
+        )?;
         layer += 1;
     }
+    Ok(())
 }
 
 fn append_survivors(

@@ -6,14 +6,16 @@ mod calls;
 mod fresh;
 mod show;
 
-fn main() {
+use std::io;
+
+fn main(rt: HostRuntime) -> io::Result<()> {
     let mut space = [0u8; 262_144];
-    let n = io::read_full(0, &mut space);
-    start(&space[..n]);
+    let n = reading::read_full(&mut rt.reader(), &mut space);
+    start(&rt, &space[..n])
 }
 
 // The memory at hand: a record of zeros, buffers that were used before, and room for survivors.
-fn start(text: &[u8]) {
+fn start(rt: &impl Print, text: &[u8]) -> io::Result<()> {
     let mut rec = [0u32; 134];
     let mut cells = [0xA5u8; 2048];
     let mut scales = [0xA5A5_A5A5u32; 256];
@@ -21,6 +23,7 @@ fn start(text: &[u8]) {
     let mut survivors = [0u32; 8192];
     let mut counts = [0u32; 9];
     calls::play(
+        rt,
         text,
         &mut rec,
         &mut lent,
@@ -28,5 +31,5 @@ fn start(text: &[u8]) {
         &mut scales,
         &mut survivors,
         &mut counts,
-    );
+    )
 }

@@ -5,6 +5,7 @@ ghost use Rattle.std.specs.Prelude.{◌≡◌, drop};
 ghost use Rattle.test_lines.specs.Line.{digit_of, with_digit_of, hex_at_of, line_length_of};
 
 // The value of an upper-case hex digit, or 16.
+#[tactic(auto, unfolding(crate::specs::Line::digit_of))]
 pub fn digit(b: u8) -> u64
     ensures { result ≡ digit_of b }
 {
@@ -24,6 +25,7 @@ pub fn digit(b: u8) -> u64
 }
 
 // The word whose 8 digits begin at `at`, or 2^32 where they are not all there.
+#[tactic(auto, unfolding(crate::specs::Line::hex_at_of))]
 pub fn hex_at(text: &[u8], at: usize) -> u64
     ensures { result ≡ hex_at_of text.now at }
 {
@@ -56,6 +58,7 @@ fn with_digit(w: u64, d: u64) -> u64
 }
 
 // The bytes from `at` on before the first line feed, or all; none past the end.
+#[tactic(auto, using(crate::proofs::LineLaws::line_at, crate::proofs::LineLaws::line_past))]
 pub fn line_length(text: &[u8], at: usize) -> usize
     ensures { result ≡ line_length_of (drop at text.now) }
 {

@@ -6,7 +6,6 @@ use Rattle.replies.proofs.Flags.{within_rest}
 use Rattle.replies.proofs.Tested.{first_lowest}
 use Rattle.store.specs.Record.{seq_len_of}
 use Rattle.store.specs.Calls.{record_refusals, sequence_refusal}
-use borrow.Author.Rules.{rules}
 use Rattle.store.proofs.advance_reply.Goals as goal
 
 pub returns : goal.returns

@@ -5,7 +5,6 @@ use Rattle.replies.proofs.Refusals.{still_passed}
 use Rattle.replies.proofs.Tested.{call_done, call_refused}
 use Rattle.store.specs.Calls.{advance_of}
 use Rattle.store.proofs.AcceptLaws.{sequence_fits}
-use borrow.Author.Rules.{rules}
 use Rattle.store.proofs.advance_seq_len.Goals as goal
 
 pub returns-then-number-ne0 : goal.returns-then-number-ne0

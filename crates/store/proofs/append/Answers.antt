@@ -1,17 +1,12 @@
 -- The reply decides: refused, all is as it was, and done, the layer has the new rows and its new length.
-use mathlib.Core.Path.{◌≡◌, ◌∙◌}
-use mathlib.Core.List.{◌++◌}
+use mathlib.Core.Path.{◌∙◌}
 use native.Mathlib.Omega.{arith}
-use lib.ListN.{length}
-use Rattle.replies.specs.Outcome.{lowest}
 use Rattle.replies.proofs.Refusals.{still_passed}
 use Rattle.replies.proofs.Tested.{call_done, call_refused}
 use Rattle.shapes.specs.Buffers.{buffers}
 use Rattle.shapes.proofs.ShapeLaws.{limits_facts, width_in}
-use Rattle.store.specs.Record.{length_of}
-use Rattle.store.specs.Calls.{lent_refusals, append_refusals, append_of}
+use Rattle.store.specs.Calls.{append_of}
 use Rattle.store.proofs.AcceptLaws.{in-limits, in_record, append_layer, append_room, append_left, store_alike}
-use borrow.Author.Rules.{rules}
 use Rattle.store.proofs.append.Goals as goal
 
 pub returns-then-number-ne0 : goal.returns-then-number-ne0

@@ -12,7 +12,6 @@ use Rattle.shapes.proofs.ShapeLaws.{within-limits, width_in}
 use Rattle.store.specs.Record.{length_of}
 use Rattle.store.specs.Calls.{lent_refusals, append_refusals}
 use Rattle.store.proofs.StoreLaws.{sound_store}
-use borrow.Author.Rules.{rules}
 use Rattle.store.proofs.append_reply.Goals as goal
 
 pub returns-then-number-ne0 : goal.returns-then-number-ne0

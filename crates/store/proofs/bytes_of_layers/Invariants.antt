@@ -1,16 +1,12 @@
 -- The sum so far is that of the layers passed, and small.
 use mathlib.Core.Path.{◌≡◌}
 use Prim.Native.Nat.{◌+◌, ◌-◌, ◌*◌, ◌≤◌}
-use native.Mathlib.Omega.{arith}
 use Rattle.lists.specs.Chunks.{turns}
-use Rattle.lists.proofs.Turns.{turns_next}
-use Rattle.store.specs.Record.{length_of, position_bytes_of, byte_count}
-use Rattle.store.proofs.StoreLaws.{sound_record, sound_limits, layer_bytes_in}
-use borrow.Author.Rules.{rules}
+use Rattle.store.specs.Record.{length_of, position_bytes_of}
 use Rattle.store.proofs.bytes_of_layers.Given as goal
 
 abbrev pub invariant-loop-l : goal.invariant-loop-l
-invariant-loop-l l = (l.l ≤ «record».shape.layers) × (l.sum ≡ turns l.l (λ i x. x + length_of «record» i * position_bytes_of «record».shape) 0) × (l.sum ≤ l.l * 2684354560)
+invariant-loop-l l = (l.l ≤ l.«record».shape.layers) × (l.sum ≡ turns l.l (λ i x. x + length_of l.«record» i * position_bytes_of l.«record».shape) 0) × (l.sum ≤ l.l * 2684354560)
 
 abbrev pub decreases-loop-l : goal.decreases-loop-l
-decreases-loop-l l = «record».shape.layers - l.l
+decreases-loop-l l = l.«record».shape.layers - l.l

@@ -5,7 +5,6 @@ use Rattle.replies.specs.Outcome.{lowest}
 use Rattle.replies.specs.Reply.{reply_number}
 use Rattle.replies.proofs.Tested.{first_lowest, call_done, call_refused}
 use Rattle.store.specs.Calls.{record_refusals, remove_refusals, cached_len_of}
-use borrow.Author.Rules.{rules}
 use Rattle.store.proofs.cached_len.Goals as goal
 
 pub returns-then-number-ne0 : goal.returns-then-number-ne0

@@ -1,7 +1,7 @@
 -- The lengths before place l are good, and one that is not ends the loop.
 use mathlib.Core.Path.{◌≡◌}
 use mathlib.Core.Bool.{true, false}
-use Prim.Native.Nat.{◌-◌, ◌≤◌, ◌<◌}
+use Prim.Native.Nat.{◌<◌}
 use native.Mathlib.Omega.{arith}
 use lib.Dec.{ltb}
 use borrow.Author.Tests.{lt-ltb, le-ltb}
@@ -18,7 +18,7 @@ loop-l-init c = search rules
 pub returns-then-most_of-record : goal.returns-then-most_of-record
 unfolding good_lengths
 returns-then-most_of-record c =
-    let r = c.args.t1 in
+    let r = c.args.«record» in
     let l = c.loop-l.l in
     let b : l < 128 = search rules in
     let e : ltb (most_of r.shape l) (length_of r l) ≡ true = lt-ltb _ _ (rw c.most_of.ensures at c.if-most_of-record.true) in
@@ -26,7 +26,7 @@ returns-then-most_of-record c =
 
 pub loop-l-preserved : goal.loop-l-preserved
 loop-l-preserved c =
-    let r = c.args.t1 in
+    let r = c.args.«record» in
     let l = c.loop-l.l in
     let e : ltb (most_of r.shape l) (length_of r l) ≡ false = le-ltb _ _ (rw c.most_of.ensures at c.if-most_of-record.false) in
     (search rules, some_next l (λ i. ltb (most_of r.shape i) (length_of r i)) c.loop-l.invariant.1 e)

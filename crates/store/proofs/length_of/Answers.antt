@@ -7,5 +7,5 @@ use Rattle.store.proofs.length_of.Goals as goal
 
 pub returns-else-layer-lt128 : goal.returns-else-layer-lt128
 returns-else-layer-lt128 c =
-    let n : length c.args.t1.lens ≡ 128 = search rules in
-    sym (get_or-eq_default c.args.t1.lens 0 (omega arith))
+    let n : length c.args.«record».lens ≡ 128 = search rules in
+    sym (get_or-eq_default c.args.«record».lens 0 (omega arith))

@@ -2,7 +2,6 @@
 use Rattle.replies.proofs.Refusals.{still_passed}
 use Rattle.replies.proofs.Tested.{call_done, call_refused}
 use Rattle.store.specs.Calls.{memory_bytes_of}
-use borrow.Author.Rules.{rules}
 use Rattle.store.proofs.memory_bytes.Goals as goal
 
 pub returns-then-number-ne0 : goal.returns-then-number-ne0

@@ -1,5 +1,4 @@
 -- Each branch knows how the test ended.
-use borrow.Author.Rules.{rules}
 use borrow.Author.Tests.{lt-ltb, le-ltb}
 use Rattle.store.proofs.most_of.Goals as goal
 

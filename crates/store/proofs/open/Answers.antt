@@ -4,7 +4,6 @@ use Rattle.replies.proofs.Tested.{call_done, call_refused}
 use Rattle.shapes.specs.Buffers.{buffers}
 use Rattle.store.specs.Calls.{open_of}
 use Rattle.store.proofs.AcceptLaws.{zeros_left, store_alike}
-use borrow.Author.Rules.{rules}
 use Rattle.store.proofs.open.Goals as goal
 
 pub returns-then-number-ne0 : goal.returns-then-number-ne0
@@ -19,4 +18,4 @@ returns c =
     call_done _ c.room_reply-reply.ensures c.number.ensures _ z
     (store_alike c.new_record-after.ensures
     (zeros_left a.shape (buffers a.cells.now a.scales.now) (still_passed c.number.ensures c.room_reply-reply.ensures z)
-    c.clear_all.ensures.0 c.clear_all.ensures.1))
+    c.clear_all.ensures.cells c.clear_all.ensures.scales))

@@ -1,7 +1,6 @@
 -- The limits bound every product.
 use native.Mathlib.Omega.{arith}
 use Rattle.store.proofs.StoreLaws.{position-bytes_in}
-use borrow.Author.Rules.{rules}
 use Rattle.store.proofs.position_bytes.Goals as goal
 
 pub overflow_mul-row : goal.overflow_mul-row

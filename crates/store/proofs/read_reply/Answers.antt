@@ -4,7 +4,6 @@ use Rattle.replies.specs.Outcome.{lowest}
 use Rattle.replies.proofs.Tested.{first_lowest}
 use Rattle.store.specs.Record.{length_of}
 use Rattle.store.specs.Calls.{lent_refusals, read_refusals}
-use borrow.Author.Rules.{rules}
 use Rattle.store.proofs.read_reply.Goals as goal
 
 pub returns : goal.returns

@@ -1,5 +1,4 @@
 -- Each refusal is the test of its condition.
-use borrow.Author.Rules.{rules}
 use Rattle.replies.specs.Outcome.{lowest}
 use Rattle.store.proofs.record_reply.Goals as goal
 

@@ -4,7 +4,6 @@ use Rattle.replies.specs.Outcome.{lowest}
 use Rattle.replies.proofs.Tested.{first_lowest}
 use Rattle.shapes.specs.Shape.{room_refusals}
 use Rattle.store.specs.Calls.{lengths_refusal}
-use borrow.Author.Rules.{rules}
 use Rattle.store.proofs.store_reply.Goals as goal
 
 pub returns : goal.returns

@@ -3,7 +3,6 @@ use mathlib.Core.Path.{refl, ◌∙◌}
 use Rattle.replies.specs.Outcome.{lowest}
 use Rattle.replies.proofs.Tested.{first_lowest}
 use Rattle.store.specs.Calls.{lent_refusals, remove_refusals}
-use borrow.Author.Rules.{rules}
 use Rattle.store.proofs.truncate_reply.Goals as goal
 
 pub returns : goal.returns

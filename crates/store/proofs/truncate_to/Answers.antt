@@ -1,14 +1,11 @@
 -- The reply decides: refused, all is as it was, and done, the layer's positions from t on are zeros.
-use mathlib.Core.Path.{◌≡◌, refl, ◌∙◌}
-use mathlib.Core.List.{[], ◌++◌}
-use lib.ListN.{length}
-use Rattle.replies.specs.Outcome.{lowest}
+use mathlib.Core.Path.{refl, ◌∙◌}
+use mathlib.Core.List.{[]}
 use Rattle.replies.proofs.Refusals.{still_passed}
 use Rattle.replies.proofs.Tested.{call_done, call_refused}
 use Rattle.shapes.specs.Buffers.{buffers}
-use Rattle.store.specs.Calls.{lent_refusals, remove_refusals, truncate_of}
+use Rattle.store.specs.Calls.{truncate_of}
 use Rattle.store.proofs.AcceptLaws.{layer_there, in_record, remove_left, store_alike}
-use borrow.Author.Rules.{rules}
 use Rattle.store.proofs.truncate_to.Goals as goal
 
 pub returns-then-number-ne0 : goal.returns-then-number-ne0

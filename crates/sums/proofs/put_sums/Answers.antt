@@ -16,5 +16,4 @@ loop-i-preserved c = (tab-set _ _ _ (omega arith) c.loop-i.invariant.0 c.f32_to_
 
 pub returns : goal.returns
 returns c =
-    let start = c.before.before.before.before in
-    tab-done _ _ _ c.loop-i.invariant.0 (omega arith) start.requires ∙ sym (words-tab start.args.sums.now)
+    tab-done _ _ _ c.loop-i.invariant.0 (omega arith) c.requires ∙ sym (words-tab c.args.sums.now)

@@ -21,12 +21,12 @@ zeros d h e = let z : d - 0 ≡ d = omega arith in rw (e, z) (part-replicate 0 d
 sums-lent : (d : ℕ) (y r : List Float) → length y ≡ d → take (d - 0) (y ++ r) ≡ y
 sums-lent d y r e = let z : d - 0 ≡ d = omega arith in rw z (take_at y r d e)
 
+-- it is as long when it is handed back
+lent : (d : ℕ) {l : List Float} (y : List Float) → d ≤ 256 → l ≡ replicate 256 (float 0) → length y ≡ length (take (d - 0) l) → length y ≡ d
+lent d y h e w = w ∙ rw (zeros d h e, length-replicate)
+
 pub slice_bounds-sums-end : goal.slice_bounds-sums-end
 slice_bounds-sums-end c = omega (arith, (fits_facts c.requires.1).small)
-
--- which come back as long as they were
-as_long : (d : ℕ) {l : List Float} (y : List Float) → d ≤ 256 → l ≡ replicate 256 (float 0) → length y ≡ length (take (d - 0) l) → length y ≡ d
-as_long d y h e l = l ∙ rw (zeros d h e, length-replicate)
 
 pub add_rows-requires : goal.add_rows-requires
 add_rows-requires c =
@@ -34,17 +34,14 @@ add_rows-requires c =
     rw (zeros d (fits_facts c.requires.1).small c.no_sums-sums.ensures, length-replicate) c.requires
 
 pub slice_bounds-put_sums-end : goal.slice_bounds-put_sums-end
-slice_bounds-put_sums-end c =
-    let d = length c.args.out.now in
-    let l = as_long d _ (fits_facts c.requires.1).small c.no_sums-sums.ensures c.add_rows.auto.out in
-    simp length-append (omega (arith, l))
+slice_bounds-put_sums-end c = simp length-append (omega (arith, lent (length c.args.out.now) _ (fits_facts c.requires.1).small c.no_sums-sums.ensures c.add_rows.auto.out))
 
 pub returns : goal.returns
 unfolding sums_of_block
 returns c =
     let d = length c.args.out.now in
-    let few = (fits_facts c.requires.1).small in
-    let z = zeros d few c.no_sums-sums.ensures in
+    let small = (fits_facts c.requires.1).small in
+    let zero = zeros d small c.no_sums-sums.ensures in
     c.put_sums.ensures
-    ∙ ap (map word) (sums-lent d _ _ (as_long d _ few c.no_sums-sums.ensures c.add_rows.auto.out) ∙ rw (z, length-replicate) at c.add_rows.ensures)
+    ∙ ap (map word) (sums-lent d _ _ (lent d _ small c.no_sums-sums.ensures c.add_rows.auto.out) ∙ rw (zero, length-replicate) at c.add_rows.ensures)
     ∙ sums_words d _ _

@@ -1,13 +1,9 @@
 -- The digits before place i have been taken in.
-use mathlib.Core.Path.{◌≡◌, ◌∙◌}
+use mathlib.Core.Path.{◌≡◌}
 use Prim.Native.Nat.{◌+◌, ◌-◌, ◌≤◌}
-use native.Mathlib.Omega.{arith}
-use lib.ListN.{length, get_or}
-use borrow.Author.Tests.{le-leb, lt-leb}
+use lib.ListN.{get_or}
 use Rattle.lists.specs.Chunks.{turns}
-use Rattle.lists.proofs.Turns.{turns_next}
-use Rattle.test_lines.specs.Line.{digit_of, with_digit_of, hex_at_of}
-use borrow.Author.Rules.{rules}
+use Rattle.test_lines.specs.Line.{digit_of, with_digit_of}
 use Rattle.test_lines.proofs.hex_at.Given as goal
 
 abbrev pub invariant-loop-i : goal.invariant-loop-i

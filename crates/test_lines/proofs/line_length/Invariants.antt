@@ -1,12 +1,8 @@
 -- No byte passed is a line feed.
-use mathlib.Core.Path.{◌≡◌, sym}
-use Prim.Native.Nat.{◌+◌, ◌-◌, ◌≤◌, suc}
-use native.Mathlib.Omega.{arith}
+use mathlib.Core.Path.{◌≡◌}
+use Prim.Native.Nat.{◌+◌, ◌-◌, ◌≤◌}
 use lib.ListN.{length, drop}
-use borrow.Author.Tests.{eq-eqb, ne_eqb}
 use Rattle.test_lines.specs.Line.{line_length_of}
-use Rattle.test_lines.proofs.LineLaws.{line_at, line_past}
-use borrow.Author.Rules.{rules}
 use Rattle.test_lines.proofs.line_length.Given as goal
 
 abbrev pub invariant-loop-n : goal.invariant-loop-n

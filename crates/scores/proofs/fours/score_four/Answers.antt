@@ -11,10 +11,10 @@ four_f32-requires c =
     let fits = quarter_f32 _ c.args.query.now c.args.cells.now c.args.scales.now c.requires in
     let t = c.if-format-eq0.true in
     record {
-      f32 = fits 0 _ (omega arith) t c.cells_of-r0.ensures;
-      f32_2 = fits 1 _ (omega arith) t c.cells_of-r1.ensures;
-      f32_3 = fits 2 _ (omega arith) t c.cells_of-r2.ensures;
-      f32_4 = fits 3 _ (omega arith) t c.cells_of-r3.ensures;
+      f32 = fits _ _ (omega arith) t c.cells_of-r0.ensures;
+      f32_2 = fits _ _ (omega arith) t c.cells_of-r1.ensures;
+      f32_3 = fits _ _ (omega arith) t c.cells_of-r2.ensures;
+      f32_4 = fits _ _ (omega arith) t c.cells_of-r3.ensures;
     }
 
 pub returns-then-format-eq0 : goal.returns-then-format-eq0
@@ -33,10 +33,10 @@ pub four_int4-requires : goal.four_int4-requires
 four_int4-requires c =
     let fits = quarter_int4 _ c.args.query.now c.args.cells.now c.args.scales.now c.requires in
     let t = scored_int4 _ c.requires.0 c.if-format-eq0.false in (
-      fits 0 _ _ (omega arith) t c.cells_of-r0.ensures c.scales_of-w0.ensures,
-      fits 1 _ _ (omega arith) t c.cells_of-r1.ensures c.scales_of-w1.ensures,
-      fits 2 _ _ (omega arith) t c.cells_of-r2.ensures c.scales_of-w2.ensures,
-      fits 3 _ _ (omega arith) t c.cells_of-r3.ensures c.scales_of-w3.ensures,
+      fits _ _ _ (omega arith) t c.cells_of-r0.ensures c.scales_of-w0.ensures,
+      fits _ _ _ (omega arith) t c.cells_of-r1.ensures c.scales_of-w1.ensures,
+      fits _ _ _ (omega arith) t c.cells_of-r2.ensures c.scales_of-w2.ensures,
+      fits _ _ _ (omega arith) t c.cells_of-r3.ensures c.scales_of-w3.ensures,
     )
 
 pub returns : goal.returns

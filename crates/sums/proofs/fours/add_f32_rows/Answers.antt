@@ -3,8 +3,9 @@ use mathlib.Core.Path.{◌≡◌, refl, sym, ◌∙◌}
 use Prim.Native.Nat.{◌+◌, ◌-◌}
 use native.Mathlib.Nat.{add-sub_cancel_left}
 use native.Mathlib.Omega.{arith}
-use lib.ListN.{length, take, drop, length-take, length-drop}
+use lib.ListN.{length}
 use Rattle.lists.specs.Chunks.{turns, part}
+use Rattle.lists.proofs.Part.{part_length}
 use Rattle.rows.proofs.FitLaws.{fits_facts}
 use Rattle.sums.proofs.SumLaws.{f32_inside, f32_count, f32_some, f32_after}
 use Rattle.sums.proofs.fours.add_f32_rows.Goals as goal
@@ -18,13 +19,11 @@ loop-p-init c = (omega arith, refl, refl, λ z. absurd (omega arith))
 
 pub cells_of-requires : goal.cells_of-requires
 cells_of-requires c =
-    let a = c.args in
-    f32_inside a.weights.now a.cells.now a.scales.now (length a.out.now) c.requires c.loop-p.p 4 (omega arith)
+    f32_inside c.args.weights.now c.args.cells.now c.args.scales.now (length c.args.out.now) c.requires c.loop-p.p 4 (omega arith)
 
 pub cells_of-requires-in-loop-p : goal.cells_of-requires-in-loop-p
 cells_of-requires-in-loop-p c =
-    let a = c.args in
-    f32_inside a.weights.now a.cells.now a.scales.now (length a.out.now) c.requires (c.loop-p.p + 4) 4 (omega arith)
+    f32_inside c.args.weights.now c.args.cells.now c.args.scales.now (length c.args.out.now) c.requires (c.loop-p.p + 4) 4 (omega arith)
 
 pub add_four-found-requires : goal.add_four-found-requires
 add_four-found-requires c =
@@ -33,40 +32,43 @@ add_four-found-requires c =
     let i = c.loop-p.invariant in
     let count = f32_count a.weights.now a.cells.now a.scales.now (length a.out.now) c.requires in
     let here = c.cells_of.ensures in
-    let behind = c.cells_of-in-loop-p.ensures in record {
+    let behind = c.cells_of-in-loop-p.ensures in
+    record {
       weights_len = (
-        simp (length-take, length-drop) (omega arith),
+        omega arith,
         rw i.2 (f32_some a.weights.now a.cells.now a.scales.now (length a.out.now) c.requires p 4 (omega arith) here),
         count (p + 4) 4 _ (omega arith) behind ∙ sym (count p 4 _ (omega arith) here),
       );
       d_value = λ z. rw (i.2, here) (i.3 z);
     }
 
+pub loop-p-smaller : goal.loop-p-smaller
+loop-p-smaller c = omega (arith, c.loop-p-test.true, c.loop-p.invariant.0)
+
 pub loop-p-preserved : goal.loop-p-preserved
 loop-p-preserved c =
     let a = c.args in
-    let p = c.loop-p.p in
     let i = c.loop-p.invariant in
-    let y = c.add_four-found in (
+    let y = c.add_four-found in
+    let test = c.loop-p-test.true in (
       omega arith,
-      f32_after a.weights.now a.cells.now a.scales.now (length a.out.now) c.requires p 4 a.out.now
-          {u = part p (p + 4 - p) a.weights.now} (omega arith) i.2 (rw add-sub_cancel_left) c.cells_of.ensures i.1 y.ensures.sums,
+      f32_after a.weights.now a.cells.now a.scales.now (length a.out.now) c.requires c.loop-p.p 4 a.out.now
+          {u = part c.loop-p.p (c.loop-p.p + 4 - c.loop-p.p) a.weights.now} (omega arith) i.2 (rw add-sub_cancel_left) c.cells_of.ensures i.1 y.ensures.sums,
       y.auto.out ∙ i.2,
       λ z. rw (i.2, c.cells_of-in-loop-p.ensures) at (y.ensures.scanned z),
     )
 
 pub cells_of-requires-2 : goal.cells_of-requires-2
 cells_of-requires-2 c =
-    let a = c.args in
-    f32_inside a.weights.now a.cells.now a.scales.now (length a.out.now) c.requires c.loop-p.p _ (omega arith)
+    f32_inside c.args.weights.now c.args.cells.now c.args.scales.now (length c.args.out.now) c.requires c.loop-p.p _ (omega arith)
 
 pub add_rest-requires : goal.add_rest-requires
 add_rest-requires c =
     let a = c.args in
-    let m = length a.weights.now - c.loop-p.p in
-    let e : length (take m (drop c.loop-p.p a.weights.now)) ≡ m = simp (length-take, length-drop) (omega arith) in
-    rw (e, c.loop-p.invariant.2)
-    (f32_some a.weights.now a.cells.now a.scales.now (length a.out.now) c.requires c.loop-p.p _ (omega arith) c.cells_of-2.ensures)
+    let p = c.loop-p.p in
+    let n = length a.weights.now - p in
+    rw (c.loop-p.invariant.2, part_length p n a.weights.now (omega arith))
+    (f32_some a.weights.now a.cells.now a.scales.now (length a.out.now) c.requires p n (omega arith) c.cells_of-2.ensures)
 
 pub returns : goal.returns
 returns c =

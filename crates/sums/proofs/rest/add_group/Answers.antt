@@ -23,16 +23,14 @@ bounds-out-i-in-loop-i-3 c =
 
 pub loop-i-preserved : goal.loop-i-preserved
 loop-i-preserved c =
-    let a = c.before.before.before.before.before.before.before.before.before.before in
     let k = c.loop-i in
-    let x = mul binary32 a.args.weight a.args.scale in (
+    let x = mul binary32 c.args.weight c.args.scale in (
       omega arith,
-      halves_next x a.args.bytes.now a.args.out.now k.i k.out a.requires.0 (omega arith) k.invariant.1
+      halves_next x c.args.bytes.now c.args.out.now k.i k.out c.requires.0 (omega arith) k.invariant.1
           (rw (c.less_8.ensures, div-one)) (rw c.less_8-in-loop-i.ensures),
       search rules,
     )
 
 pub returns : goal.returns
 returns c =
-    let a = c.before.before.before.before in
-    halves_all (mul binary32 a.args.weight a.args.scale) a.args.bytes.now a.args.out.now _ a.requires.0 (omega arith) c.loop-i.invariant.1
+    halves_all (mul binary32 c.args.weight c.args.scale) c.args.bytes.now c.args.out.now _ c.requires.0 (omega arith) c.loop-i.invariant.1

@@ -22,33 +22,25 @@ loop-p-init c = search rules
 
 pub cells_of-row-requires : goal.cells_of-row-requires
 cells_of-row-requires c =
-    let k = c.before in
-    let start = k.before.before.before.before.before.before.before in
-    (part_inside _ _ _ start.args.cells.now start.args.scales.now start.requires k.loop-p.p 1 (omega arith) k.cell_bytes-c.ensures k.scale_words-w.ensures).0
+    (part_inside _ _ _ c.args.cells.now c.args.scales.now c.requires c.loop-p.p 1 (omega arith) c.cell_bytes-c.ensures c.scale_words-w.ensures).0
 
 pub scales_of-words-requires : goal.scales_of-words-requires
 scales_of-words-requires c =
-    let k = c.before.before in
-    let start = k.before.before.before.before.before.before.before in
-    (part_inside _ _ _ start.args.cells.now start.args.scales.now start.requires k.loop-p.p 1 (omega arith) k.cell_bytes-c.ensures k.scale_words-w.ensures).1
+    (part_inside _ _ _ c.args.cells.now c.args.scales.now c.requires c.loop-p.p 1 (omega arith) c.cell_bytes-c.ensures c.scale_words-w.ensures).1
 
 pub add_row-requires : goal.add_row-requires
 add_row-requires c =
-    let k = c.before.before.before.before.before in
-    let start = k.before.before.before.before.before.before.before in
-    rw k.loop-p.invariant.2
-    (part_rows _ _ _ start.args.cells.now start.args.scales.now start.requires k.loop-p.p 1 (omega arith) k.cell_bytes-c.ensures k.scale_words-w.ensures refl
+    rw c.loop-p.invariant.2
+    (part_rows _ _ _ c.args.cells.now c.args.scales.now c.requires c.loop-p.p 1 (omega arith) c.cell_bytes-c.ensures c.scale_words-w.ensures refl
     c.cells_of-row.ensures c.scales_of-words.ensures)
 
 pub loop-p-preserved : goal.loop-p-preserved
 loop-p-preserved c =
-    let row = c.before.before in
-    let k = row.before.before.before.before.before.before in
-    let r = k.cell_bytes-c.ensures in
-    let v = k.scale_words-w.ensures in (
+    let r = c.cell_bytes-c.ensures in
+    let v = c.scale_words-w.ensures in (
       omega arith,
-      turns_next _ _ _ k.loop-p.invariant.1
-          (rw (row.cells_of-row.ensures, row.scales_of-words.ensures, r, v, one-mul, one-mul) at row.add_row.ensures),
+      turns_next _ _ _ c.loop-p.invariant.1
+          (rw (c.cells_of-row.ensures, c.scales_of-words.ensures, r, v, one-mul, one-mul) at c.add_row.ensures),
       search rules,
     )
 

@@ -4,4 +4,4 @@ use Rattle.decode.proofs.DecodeLaws.{word_lent}
 use Rattle.sums.proofs.stored.word_at.Goals as goal
 
 pub returns : goal.returns
-returns c = let start = c.before.before.before in word_lent start.args.cells.now (start.args.d * 4) c.word_of.ensures start.requires
+returns c = word_lent c.args.cells.now (c.args.d * 4) c.word_of.ensures c.requires
