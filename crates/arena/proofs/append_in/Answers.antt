@@ -3,7 +3,6 @@ use Rattle.shapes.specs.Buffers.{buffers}
 use Rattle.store.specs.Calls.{append_of}
 use Rattle.arena.specs.Calls.{append_in_of}
 use Rattle.arena.proofs.ArenaLaws.{given_back}
-use borrow.Author.Rules.{rules}
 use Rattle.arena.proofs.append_in.Goals as goal
 
 pub returns : goal.returns

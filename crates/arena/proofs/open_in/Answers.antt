@@ -2,7 +2,6 @@
 use mathlib.Core.Path.{sym, ◌∙◌}
 use Rattle.shapes.specs.Buffers.{buffers}
 use Rattle.arena.proofs.ArenaLaws.{open_done, open_refused}
-use borrow.Author.Rules.{rules}
 use Rattle.arena.proofs.open_in.Goals as goal
 
 pub returns-then-number-ne0 : goal.returns-then-number-ne0

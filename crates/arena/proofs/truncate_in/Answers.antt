@@ -3,7 +3,6 @@ use Rattle.shapes.specs.Buffers.{buffers}
 use Rattle.store.specs.Calls.{truncate_of}
 use Rattle.arena.specs.Calls.{truncate_in_of}
 use Rattle.arena.proofs.ArenaLaws.{given_back}
-use borrow.Author.Rules.{rules}
 use Rattle.arena.proofs.truncate_in.Goals as goal
 
 pub returns : goal.returns
