@@ -83,9 +83,9 @@ unfolding rows_after_all
 kept_next s l r c others true = refl
 kept_next s l r c others false = refl
 
-pub run_renders : {s : Shape} {t : Store} {of : ℕ → Rows} (calls : List Call) → Renders s t of
+pub run_renders : {s : Shape} (calls : List Call) {t : Store} {of : ℕ → Rows} → Renders s t of
     → Renders s (run calls t) (λ l. rows_after_all s l (of l) (accepted calls t))
 unfolding run accepted rows_after_all
 run_renders [] x = x
-run_renders {s} {t} {of} (c ∷ calls) x =
+run_renders {s} (c ∷ calls) {t} {of} x =
     renders_same (λ l. kept_next s l (of l) c (accepted calls (does c t).result) (eqb (does c t).reply 0)) (run_renders calls (step c x))

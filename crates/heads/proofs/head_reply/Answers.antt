@@ -5,7 +5,6 @@ use Rattle.replies.proofs.Tested.{first_lowest}
 use Rattle.store.specs.Record.{length_of}
 use Rattle.store.specs.Calls.{lent_refusals}
 use Rattle.heads.specs.Calls.{head_refusals}
-use borrow.Author.Rules.{rules}
 use Rattle.heads.proofs.head_reply.Goals as goal
 
 pub returns : goal.returns
