@@ -7,7 +7,7 @@ use std::collections::BTreeMap;
 use std::fs;
 use std::path::{Path, PathBuf};
 
-const SOURCE: &str = "../crates/host/src/lib.rt";
+const SOURCE: &str = "../crates/host_c/src/lib.rt";
 const REPLIES: &str = "../crates/replies/src/lib.rt";
 const HEADER: &str = "../include/kv.h";
 const DECLARATIONS: &str = "kv-sys/src/lib.rs";
@@ -229,7 +229,10 @@ impl Language {
 #[test]
 fn header_declares_what_the_source_does() {
     let source = of_source(&read(SOURCE));
-    assert_eq!(source.len(), read(SOURCE).matches("#[no_mangle]").count());
+    assert_eq!(
+        source.len(),
+        read(SOURCE).matches("#[unsafe(no_mangle)]").count()
+    );
     assert_eq!(of_header(&read(HEADER)), C.wanted(&source));
 }
 
