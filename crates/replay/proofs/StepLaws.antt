@@ -1,11 +1,11 @@
 -- What each part of a step answers, put together.
 -- Each holds by the definition, at what the part before answered.
-use mathlib.Core.Path.{◌≡◌, sym, ap, ◌∙◌}
+use mathlib.Core.Path.{◌≡◌, ap, ◌∙◌}
 use mathlib.Core.List.{List, ◌++◌}
 use Prim.Native.Nat.{ℕ, ◌+◌, ◌-◌, ◌*◌, ◌≤◌}
 use native.Mathlib.Omega.{arith}
 use lib.ListN.{length, take, drop}
-use lib.Seq.{take_at, length_front, length-take-le}
+use lib.Seq.{take_at, length-take-le}
 use Rattle.replies.specs.Outcome.{Outcome}
 use Rattle.store.specs.declared.Changed.{Changed}
 use Rattle.store.specs.Calls.{Store, changed_store}
@@ -21,7 +21,7 @@ use Rattle.replay.specs.Step.{Printed, Effect, answers, effect_of, walk, Step, s
 use Rattle.replay.specs.Transcript.{text_of, Play}
 use Rattle.replay.specs.Turn.{turned}
 
--- a side of which the first n words, y, were read: its length, and its numbers
+-- a side of which the first n words, y, were read: its numbers
 module _ (file : List ℕ) (at n : ℕ) (side y : List ℕ) (sized : 512 ≡ length side) (b : n ≤ 512) (f : at + 4 * n ≤ length file)
     (e : y ≡ words_read file at (take (n - 0) side)) where
   first : length (take n side) ≡ n
@@ -32,11 +32,6 @@ module _ (file : List ℕ) (at n : ℕ) (side y : List ℕ) (sized : 512 ≡ len
       let k : n - 0 ≡ n = omega arith in
       let g : at + 4 * length (take n side) ≤ length file = rw first f in
       e ∙ rw (k, words-read file at (take n side) g, first)
-
-  pub side_length : 512 ≡ length (y ++ drop (n - 0) side)
-  side_length =
-      let k : n - 0 ≡ n = omega arith in
-      sized ∙ sym (length_front side y (n - 0) (rw (k, first, read) (words-length n file at)))
 
   pub side_read : take n (y ++ drop (n - 0) side) ≡ words n file at
   side_read = rw read (take_at (words n file at) _ n (words-length n file at))

@@ -3,13 +3,12 @@ use Rattle.shapes.specs.Buffers.{buffers}
 use Rattle.store.specs.Calls.{append_of}
 use Rattle.arena.specs.Calls.{append_in_of}
 use Rattle.arena.proofs.ArenaLaws.{given_back}
-use borrow.Author.Rules.{rules}
 use Rattle.arena.proofs.append_in.Goals as goal
 
 pub returns : goal.returns
 unfolding append_in_of
 returns c =
     let a = c.args in
-    given_back a.«record».shape (buffers a.cells.now a.scales.now) c.need_of-need.ensures c.smaller-c.ensures.0 c.smaller-s.ensures.0
+    given_back a.«record».shape (buffers a.cells.now a.scales.now) c.need_of-need.ensures c.smaller-c.ensures.value c.smaller-s.ensures.value
     (λ b. append_of a.«record» b a.layer a.keys.now a.values.now)
     c.append.ensures

@@ -2,23 +2,22 @@
 use mathlib.Core.Path.{sym, ◌∙◌}
 use Rattle.shapes.specs.Buffers.{buffers}
 use Rattle.arena.proofs.ArenaLaws.{open_done, open_refused}
-use borrow.Author.Rules.{rules}
 use Rattle.arena.proofs.open_in.Goals as goal
 
 pub returns-then-number-ne0 : goal.returns-then-number-ne0
 returns-then-number-ne0 c =
     let a = c.args in
     let e = c.number.ensures in
-    open_refused a.shape (buffers a.cells.now a.scales.now) c.need_of-need.ensures c.smaller-c.ensures.0 c.smaller-s.ensures.0
+    open_refused a.shape (buffers a.cells.now a.scales.now) c.need_of-need.ensures c.smaller-c.ensures.value c.smaller-s.ensures.value
     a.«record»
-    c.«open».ensures
+    c.open-opened.ensures
     (λ z. c.if-number-ne0.true (e ∙ z))
 
 pub returns : goal.returns
 returns c =
     let a = c.args in
     let e = c.number.ensures in
-    open_done a.shape (buffers a.cells.now a.scales.now) c.need_of-need.ensures c.smaller-c.ensures.0 c.smaller-s.ensures.0
+    open_done a.shape (buffers a.cells.now a.scales.now) c.need_of-need.ensures c.smaller-c.ensures.value c.smaller-s.ensures.value
     a.«record»
-    c.«open».ensures
+    c.open-opened.ensures
     (sym e ∙ c.if-number-ne0.false)

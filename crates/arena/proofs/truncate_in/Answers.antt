@@ -3,13 +3,12 @@ use Rattle.shapes.specs.Buffers.{buffers}
 use Rattle.store.specs.Calls.{truncate_of}
 use Rattle.arena.specs.Calls.{truncate_in_of}
 use Rattle.arena.proofs.ArenaLaws.{given_back}
-use borrow.Author.Rules.{rules}
 use Rattle.arena.proofs.truncate_in.Goals as goal
 
 pub returns : goal.returns
 unfolding truncate_in_of
 returns c =
     let a = c.args in
-    given_back a.«record».shape (buffers a.cells.now a.scales.now) c.need_of-need.ensures c.smaller-c.ensures.0 c.smaller-s.ensures.0
+    given_back a.«record».shape (buffers a.cells.now a.scales.now) c.need_of-need.ensures c.smaller-c.ensures.value c.smaller-s.ensures.value
     (λ b. truncate_of a.«record» b a.layer a.t)
     c.truncate_to.ensures

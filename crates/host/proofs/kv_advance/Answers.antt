@@ -1,6 +1,5 @@
 -- The store's promise of the record that the words are, with its reply as a number and its record as words.
 use mathlib.Core.Path.{ap}
-use borrow.Author.Rules.{rules}
 use Rattle.host.specs.Words.{record_from}
 use Rattle.host.proofs.WordLaws.{as_told}
 use Rattle.host.proofs.kv_advance.Goals as goal

@@ -1,5 +1,4 @@
 -- The two calls' promises, one after the other.
-use borrow.Author.Rules.{rules}
 use Rattle.host.proofs.kv_dequantize_i8.Goals as goal
 
 pub returns : goal.returns

@@ -1,5 +1,4 @@
 -- Outside the limits there is no need and the reply is 1; inside, both totals.
-use borrow.Author.Rules.{rules}
 use Rattle.replies.proofs.Flags.{passed, failed}
 use Rattle.host.proofs.WordLaws.{need_inside, need_outside}
 use Rattle.host.proofs.kv_need.Goals as goal

@@ -1,9 +1,8 @@
 -- The store's promise, with its reply as a number and its record as words.
-use borrow.Author.Rules.{rules}
 use Rattle.host.proofs.WordLaws.{as_seen}
 use Rattle.host.proofs.kv_open.Goals as goal
 
 pub returns : goal.returns
 returns c =
     as_seen c.number.ensures c.words_of.ensures
-    c.«open».ensures
+    c.open-answer.ensures

@@ -1,6 +1,5 @@
 -- The store's promise of the record that the words are, with its reply as a number.
 use mathlib.Core.Path.{refl}
-use borrow.Author.Rules.{rules}
 use Rattle.host.proofs.WordLaws.{as_told}
 use Rattle.host.proofs.kv_read_row.Goals as goal
 

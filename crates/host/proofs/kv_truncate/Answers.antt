@@ -1,5 +1,4 @@
 -- The store's promise of the record that the words are, with its reply as a number and its record as words.
-use borrow.Author.Rules.{rules}
 use Rattle.host.proofs.WordLaws.{as_seen}
 use Rattle.host.proofs.kv_truncate.Goals as goal
 

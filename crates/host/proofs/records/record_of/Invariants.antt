@@ -1,13 +1,8 @@
 -- The lengths passed are words 6 on, and the others are still zero.
-use mathlib.Core.Path.{◌≡◌, refl}
+use mathlib.Core.Path.{◌≡◌}
 use Prim.Native.Nat.{◌+◌, ◌-◌, ◌≤◌}
-use native.Mathlib.Nat.{add_comm}
-use native.Mathlib.Omega.{arith}
-use lib.ListN.{length, get_or, drop, length-drop}
-use lib.Seq.{get_or-drop}
-use borrow.Author.Rules.{rules}
-use Rattle.lists.specs.Chunks.{tab}
-use Rattle.host.proofs.WordLaws.{copied, copied_turn, copied_all}
+use lib.ListN.{get_or}
+use Rattle.host.proofs.WordLaws.{copied}
 use Rattle.host.proofs.records.record_of.Given as goal
 
 abbrev pub invariant-loop-i : goal.invariant-loop-i

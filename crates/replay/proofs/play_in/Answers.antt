@@ -1,0 +1,22 @@
+-- A file over the limit prints one line before its first record; any other is walked.
+use mathlib.Core.Path.{ap, ◌∙◌}
+use native.Mathlib.Omega.{arith}
+use borrow.Author.Tests.{le-leb, lt-leb}
+use Rattle.shapes.specs.Buffers.{buffers}
+use Rattle.printing.specs.Text.{Laid, bad_text_of}
+use Rattle.printing.proofs.LaidLaws.{laid_first}
+use Rattle.replay.specs.Step.{walk}
+use Rattle.replay.specs.Transcript.{start, play_of}
+use Rattle.replay.proofs.play_in.Goals as goal
+
+pub returns-then-file-gt16384 : goal.returns-then-file-gt16384
+unfolding play_of
+returns-then-file-gt16384 c =
+    let a = c.args in
+    rw (lt-leb _ 16384 c.if-file-gt16384.true, c.not_open.ensures)
+    (ap (λ (l : Laid). record { last = walk 16384 (start (buffers a.cells.now a.scales.now)).cache; text = l })
+    (c.bad_text-count.ensures ∙ laid_first (bad_text_of 16384) a.out.now (omega arith)))
+
+pub returns : goal.returns
+unfolding play_of
+returns c = rw (le-leb _ 16384 c.if-file-gt16384.false) c.walk_file.ensures

@@ -1,0 +1,8 @@
+-- The numbers lie in the file, so all of them are read.
+use Rattle.replay.proofs.StepLaws.{side_read}
+use Rattle.replay.proofs.side_at.Goals as goal
+
+pub returns-clause-result_value : goal.returns-clause-result_value
+returns-clause-result_value c =
+    let a = c.args in
+    side_read a.file.now a.at a.n c.no_numbers-side.result _ c.no_numbers-side.ensures c.requires.1 c.requires.0 c.read_words.ensures
