@@ -71,3 +71,9 @@ pub unsafe extern "C" fn kvcalls_write(_file: i32, from: *const u8, count: usize
         count as isize
     })
 }
+
+/// What the program calls to ask where its input stands; this has no place, as a pipe has none.
+#[no_mangle]
+pub extern "C" fn kvcalls_lseek(_file: i32, _by: i64, _from: i32) -> i64 {
+    -1
+}
