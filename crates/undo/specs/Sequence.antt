@@ -11,7 +11,7 @@ pub data Call : Type 0 where
   truncate : ℕ → ℕ → Call
   -- a count
   advance : ℕ → Call
-  -- a call that reads, by its reply: any function of the store, such as λ t. read_of t.rec t.memory l side h p out .reply,
+  -- a call that reads, by its reply: any function of the store, such as λ t. (read_of t.rec t.memory l side h p out).reply,
   -- and likewise by cached_len_of, memory_bytes_of, head_scores_of and head_sums_of
   reads : (Store → ℕ) → Call
 
