@@ -69,7 +69,8 @@ pub fn play_in(
     ensures { played result cells.new scales.new out.new
         ≡ play_in_of file.now (buffers cells.old scales.old) out.old }
 {
-    if 16_384 < file.len() {
+    let over = 16_384 < file.len();
+    if over {
         let count = bad_text(16_384, out, 0);
         return Played {
             place: 16_384,

@@ -85,7 +85,7 @@ put_positions-requires-2 c =
     c.if-not-fits-whole.false in
     record {
       in_layer = in-layer _ _ _ _ x.0 (omega arith) (le_refl _) (search rules) (search rules);
-      numbers_len = x.2;
+      numbers_len = omega arith;
     }
 
 pub returns : goal.returns

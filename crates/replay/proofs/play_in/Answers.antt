@@ -9,14 +9,14 @@ use Rattle.replay.specs.Step.{walk}
 use Rattle.replay.specs.Transcript.{start, play_of}
 use Rattle.replay.proofs.play_in.Goals as goal
 
-pub returns-then-file-gt16384 : goal.returns-then-file-gt16384
+pub returns-then-over : goal.returns-then-over
 unfolding play_of
-returns-then-file-gt16384 c =
+returns-then-over c =
     let a = c.args in
-    rw (lt-leb _ 16384 c.if-file-gt16384.true, c.not_open.ensures)
+    rw (lt-leb _ 16384 c.if-over.true, c.not_open.ensures)
     (ap (λ (l : Laid). record { last = walk 16384 (start (buffers a.cells.now a.scales.now)).cache; text = l })
     (c.bad_text-count.ensures ∙ laid_first (bad_text_of 16384) a.out.now (omega arith)))
 
 pub returns : goal.returns
 unfolding play_of
-returns c = rw (le-leb _ 16384 c.if-file-gt16384.false) c.walk_file.ensures
+returns c = rw (le-leb _ 16384 c.if-over.false) c.walk_file.ensures

@@ -11,16 +11,18 @@ use Rattle.numbers.proofs.Signs.{counts, counts_up_to, clamped_up, clamped_down}
 use Rattle.numbers.proofs.codes.quantize.Goals as goal
 use Rattle.numbers.proofs.codes.quantize.Goals.{then-q, else-q}
 
-module _ (low high zero : ℕ) (q x : Float) (l : low ≤ 128) (h : high ≤ low) (e : x ≡ topped high q) where
+-- a quotient q that is cut at an end up to 128, as x, is a number of 32 bits
+module _ (end : ℕ) (q x : Float) (l : end ≤ 128) (e : x ≡ topped end q) where
   is_number : T (not (is_nan x))
-  is_number = rw e (topped_no_nan high (omega arith) q)
+  is_number = rw e (topped_no_nan end l q)
 
   in_range : T (fits binary32 q) → T (fits binary32 x)
-  in_range f = rw e (topped_fits high q f)
+  in_range f = rw e (topped_fits end q f)
 
+module _ (low high zero : ℕ) (q x : Float) (l : low ≤ 128) (h : high ≤ low) (e : x ≡ topped high q) where
   code_is : T (fits binary32 q) → T (not (is_nan q)) → above zero (clamped low low (float (to_bits binary32 x))) ≡ above zero (clamped low high q)
   code_is f n =
-      let back : float (to_bits binary32 x) ≡ topped high q = of_bits-to_bits binary32 x (in_range f) ∙ e in
+      let back : float (to_bits binary32 x) ≡ topped high q = of_bits-to_bits binary32 x (in_range high q x (omega arith) e f) ∙ e in
       rw (back, topped_clamped low high h l q n)
 
   -- a NaN counts nothing, and what is not one counts as its magnitude does
@@ -31,27 +33,26 @@ module _ (low high zero : ℕ) (q x : Float) (l : low ≤ 128) (h : high ≤ low
   counted f m n t k z u (inl w) = rw (w.1, z, differs q w.0)
   counted f m n t k z u (inr w) = rw (w.1, k, ← u) (code_is t (no_nan q w.0))
 
-few : (low m n : ℕ) (x : Float) → n ≡ counts low x → (m ≡ 0) ⊎ (m ≡ n) → m ≤ low
-few low m n x k (inl w) = omega arith
-few low m n x k (inr w) = rw (w, k) (counts_up_to low x)
+-- what is counted is no more than the magnitude's end, or than a NaN's count
+few : (low most m k n : ℕ) (x : Float) → n ≡ counts low x → low ≤ most → k ≤ most → (m ≡ k) ⊎ (m ≡ n) → m ≤ most
+few low most m k n x e l z (inl w) = omega arith
+few low most m k n x e l z (inr w) = omega (arith, counts_up_to low x)
 
 pub float_to_bits-bits : goal.float_to_bits-bits
-float_to_bits-bits c = is_number _ _ c.args.zero _ _ c.requires.0 c.requires.1 c.smaller-bits.ensures
+float_to_bits-bits c = is_number _ _ _ (omega arith) c.smaller-bits.ensures
 
 pub nearest_whole-n-requires : goal.nearest_whole-n-requires
 nearest_whole-n-requires c =
-    let s = in_range c.args.low c.args.high c.args.zero _ _ c.requires.0 c.requires.1 c.smaller-bits.ensures (div-fits binary32 _ _) in
-    let n = is_number c.args.low c.args.high c.args.zero _ _ c.requires.0 c.requires.1 c.smaller-bits.ensures in
-    (word_up_to_infinity _ s n, omega arith)
+    (word_up_to_infinity _ (in_range _ _ _ (omega arith) c.smaller-bits.ensures (div-fits binary32 _ _)) (is_number _ _ _ (omega arith) c.smaller-bits.ensures), omega arith)
 
 pub overflow_add-result : goal.overflow_add-result
 overflow_add-result c =
-    let m : c.if-q.m ≤ c.args.low = few _ _ _ _ c.nearest_whole-n.ensures (elim c.if-q.branch [ then-q w ↦ inl w.m-is | else-q w ↦ inr w.m-is ]) in
+    let m : c.if-q.m ≤ 128 = few c.args.low 128 _ _ _ _ c.nearest_whole-n.ensures (omega arith) (omega arith) (elim c.if-q.branch [ then-q w ↦ inl w.m-is | else-q w ↦ inr w.m-is ]) in
     record { fits = omega arith }
 
 pub overflow_sub-result : goal.overflow_sub-result
 overflow_sub-result c =
-    let m : c.if-q.m ≤ c.args.low = few _ _ _ _ c.nearest_whole-n.ensures (elim c.if-q.branch [ then-q w ↦ inl w.m-is | else-q w ↦ inr w.m-is ]) in
+    let m : c.if-q.m ≤ c.args.low = few c.args.low c.args.low _ _ _ _ c.nearest_whole-n.ensures (omega arith) (omega arith) (elim c.if-q.branch [ then-q w ↦ inl w.m-is | else-q w ↦ inr w.m-is ]) in
     omega arith
 
 pub returns-then-positive : goal.returns-then-positive
