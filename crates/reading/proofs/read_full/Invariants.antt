@@ -1,9 +1,14 @@
--- What was read lies in the buffer, and each turn that goes on has read something.
-use Rattle.std.proofs.Common.{length, ◌-◌, ◌≤◌}
+-- What was read lies at the front of the buffer, and each turn that goes on has read something.
+use Rattle.std.proofs.Common.{length, take, ◌-◌, ◌≤◌}
+use Rattle.std.specs.Io.KnownBytes.{Consumes}
 use Rattle.reading.proofs.read_full.Given as goal
 
 abbrev pub invariant-loop-done : goal.invariant-loop-done
-invariant-loop-done g l = l.done ≤ length l.buf
+invariant-loop-done g l =
+    record {
+      within : l.done ≤ length l.buf;
+      bytes : Consumes (g.R.Read.remaining l.initial.from) (g.R.Read.remaining l.from) (take l.done l.buf);
+    }
 
 abbrev pub decreases-loop-done : goal.decreases-loop-done
 decreases-loop-done g l = length l.buf - l.done
