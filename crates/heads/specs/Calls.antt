@@ -1,7 +1,7 @@
 -- Scores and weighted sums of a stored head: the paper's Scores and sums, under Calls, with replies 1 to 8.
 use Rattle.std.specs.Prelude.{ℕ, not, List, [], ◌∷◌, ◌++◌, eqb, ltb, leb, length, get_or, Float}
 use Rattle.std.specs.Float.{nan}
-use Rattle.replies.specs.Outcome.{Refusal, ◌when◌, Outcome, outcome}
+use Rattle.replies.specs.Outcome.{Case, ◌when◌, Outcome, outcome}
 use Rattle.shapes.specs.declared.Shape.{Shape}
 use Rattle.shapes.specs.Shape.{head_size_of}
 use Rattle.shapes.specs.Buffers.{Buffers}
@@ -23,7 +23,7 @@ unfoldable pub sums_at : Shape → ℕ → ℕ → List Float → Buffers → Li
 sums_at s l h weights b = sums_of (head_size_of s) (length weights) (term_at s l h weights b)
 
 -- the refusals past those of the store, where a layer has `len` positions: `given` numbers of a query or of an output, m scores or weights
-abbrev pub head_refusals : Shape → ℕ → ℕ → ℕ → ℕ → ℕ → List Refusal
+abbrev pub head_refusals : Shape → ℕ → ℕ → ℕ → ℕ → ℕ → List Case
 head_refusals s l len h given m =
     (4 when not (has_layer s l))
     ∷ (5 when not (ltb h s.heads))

@@ -3,34 +3,35 @@ use mathlib.Core.Path.{◌≡◌, refl, sym, ap, ◌∙◌}
 use mathlib.Core.List.{[], ◌∷◌}
 use Prim.Native.Nat.{ℕ}
 use lib.ListN.{get_or}
-use Rattle.replies.specs.declared.Reply.{Reply}
-use Rattle.replies.specs.declared.Reply.TheVariants.{Done, Shape, Room, Lengths, Layer, Head, Format, Size, Position, Full, Sequence}
+use Rattle.std.specs.Prelude.{Result, Ok, Err, ⊤}
+use Rattle.replies.specs.declared.Refusal.{Refusal}
+use Rattle.replies.specs.declared.Refusal.TheVariants.{Shape, Room, Lengths, Layer, Head, Format, Size, Position, Full, Sequence}
 use Rattle.replies.specs.Reply.{reply_number}
 use Rattle.replies.specs.Outcome.{Outcome, answered}
 
-reply_of : ℕ → Reply
-reply_of n = get_or (Done ∷ Shape ∷ Room ∷ Lengths ∷ Layer ∷ Head ∷ Format ∷ Size ∷ Position ∷ Full ∷ []) n Sequence
+reply_of : ℕ → Result ⊤ Refusal
+reply_of n = get_or (Ok tt ∷ Err Shape ∷ Err Room ∷ Err Lengths ∷ Err Layer ∷ Err Head ∷ Err Format ∷ Err Size ∷ Err Position ∷ Err Full ∷ []) n (Err Sequence)
 
-back : (r : Reply) → reply_of (reply_number r) ≡ r
+back : (r : Result ⊤ Refusal) → reply_of (reply_number r) ≡ r
 unfolding reply_of
-back Done = refl
-back Shape = refl
-back Room = refl
-back Lengths = refl
-back Layer = refl
-back Head = refl
-back Format = refl
-back Size = refl
-back Position = refl
-back Full = refl
-back Sequence = refl
+back (Ok tt) = refl
+back (Err Shape) = refl
+back (Err Room) = refl
+back (Err Lengths) = refl
+back (Err Layer) = refl
+back (Err Head) = refl
+back (Err Format) = refl
+back (Err Size) = refl
+back (Err Position) = refl
+back (Err Full) = refl
+back (Err Sequence) = refl
 
-pub same_reply : (r r' : Reply) → reply_number r ≡ reply_number r' → r ≡ r'
+pub same_reply : (r r' : Result ⊤ Refusal) → reply_number r ≡ reply_number r' → r ≡ r'
 same_reply r r' e = sym (back r) ∙ ap reply_of e ∙ back r'
 
 -- whatever a call may answer and leave under a statement o, it answers and leaves one thing
 abbrev pub One : {A : Type 0} → Outcome A → Type 0
-One {A} o = (r r' : Reply) (x x' : A) → answered r x ≡ o → answered r' x' ≡ o → (r ≡ r') × (x ≡ x')
+One {A} o = (r r' : Result ⊤ Refusal) (x x' : A) → answered r x ≡ o → answered r' x' ≡ o → (r ≡ r') × (x ≡ x')
 
 pub coincide : {A : Type 0} (o : Outcome A) → One o
 coincide {A} o r r' x x' e e' =

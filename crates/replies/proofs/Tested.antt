@@ -1,33 +1,67 @@
--- A call that tests a reply r by its number n: what it leaves, and which refusal is its lowest.
--- Each holds since n is the lowest of the refusals that r was asked of.
-use mathlib.Core.Path.{◌≡◌, refl, sym, ◌∙◌}
-use mathlib.Core.Bool.{Bool, true, false, cond}
-use mathlib.Core.List.{List, ◌++◌}
+-- What an answer r, whose number is the lowest of some refusals, says of them: done, none holds; refused, one does and `?` hands it on.
+use mathlib.Core.Path.{◌≡◌, refl, sym, ap, ◌∙◌}
+use mathlib.Core.Bool.{Bool, true, false, not}
+use mathlib.Core.List.{List, [], ◌∷◌, ◌++◌}
 use Prim.Native.Nat.{ℕ}
-use lib.Dec.{eqb}
-use borrow.Author.Tests.{eqb-true, eqb-false}
-use Rattle.replies.specs.Outcome.{Refusal, lowest, outcome}
-use Rattle.replies.proofs.Refusals.{rising, still_passed, still_refused, lowest_none, passed_before, refused_before, outcome-done, outcome_refused}
+use Rattle.std.specs.Prelude.{Result, Ok, Err, IsErrAnd, if◌then◌else◌, ⊤}
+use Rattle.replies.specs.declared.Refusal.{Refusal}
+use Rattle.replies.specs.declared.Refusal.TheVariants.{Shape, Room, Lengths, Layer, Head, Format, Size, Position, Full, Sequence}
+use Rattle.replies.specs.Reply.{refusal_number, reply_number}
+use Rattle.replies.specs.Outcome.{Case, ◌when◌, lowest, answered, outcome}
+use Rattle.replies.proofs.Refusals.{rising, lowest_none, passed_before, refused_before, outcome-done, outcome_refused}
 
-module _ (a : List Refusal) {r n : ℕ} (e : r ≡ lowest a) (q : n ≡ r) where
-  -- done or refused by it
-  pub call_done : {A : Type 0} {new result : A} (old : A) → n ≡ 0 → result ≡ new → record { reply = r; result = result } ≡ outcome a new old
-  call_done {new = new} old z w = rw (outcome-done a new old (still_passed q e z), w, sym q ∙ z)
+-- no refusal has the number 0
+not_done : (x : Refusal) → refusal_number x ≡ 0 → ⊥
+not_done Shape e = cc
+not_done Room e = cc
+not_done Lengths e = cc
+not_done Layer e = cc
+not_done Head e = cc
+not_done Format e = cc
+not_done Size e = cc
+not_done Position e = cc
+not_done Full e = cc
+not_done Sequence e = cc
 
-  pub call_refused : {A : Type 0} {old : A} (new : A) → (n ≡ 0 → ⊥) → record { reply = r; result = old } ≡ outcome a new old
-  call_refused {old = old} new h = rw (outcome_refused a new old (still_refused q e h), e)
+-- a `?` hands a refusal on
+pub handed_on : {A B : Type 0} {r : Result A Refusal} {x : Refusal} (s : Result B Refusal) → r ≡ Err x → IsErrAnd s (λ y. y ≡ x) → reply_number s ≡ reply_number r
+handed_on (Ok b) e h = absurd h
+handed_on (Err y) e h = rw (e, h)
 
-  -- refused, it is the lowest before all that follow; passed, it hands on to them
-  pub first_refused : (b : List Refusal) → (n ≡ 0 → ⊥) → r ≡ lowest (a ++ b)
-  first_refused b h = e ∙ sym (refused_before a b (still_refused q e h))
+-- a condition p that was required, tested as `holds`: what it answers, and that it holds where it is not refused
+module _ {r : Result ⊤ Refusal} (x : Refusal) (holds : Bool) (e : r ≡ (if holds then Ok (tt {0}) else Err x)) where
+  pub required : {p : Bool} → holds ≡ p → reply_number r ≡ lowest ((refusal_number x when not p) ∷ [])
+  unfolding lowest
+  required {p} q = rw (e, q) (either p)
+    where
+      either : (p : Bool) → reply_number (if p then Ok (tt {0}) else Err x) ≡ lowest ((refusal_number x when not p) ∷ [])
+      either true = refl
+      either false = refl
 
-  pub first_passed : (b : List Refusal) {x : ℕ} → rising 0 a ≡ true → n ≡ 0 → x ≡ lowest b → x ≡ lowest (a ++ b)
-  first_passed b t z w = w ∙ sym (passed_before a b (lowest_none 0 a t (still_passed q e z)))
+  pub held : {y : ⊤} → r ≡ Ok y → holds ≡ true
+  held {y} w = by holds (sym e ∙ w)
+    where
+      by : (t : Bool) → (if t then Ok (tt {0}) else Err x) ≡ Ok y → t ≡ true
+      by true q = refl
+      by false q = cc
 
--- the first of two replies is the lowest of both lists
-pub first_lowest : (a b : List Refusal) {r x : ℕ} → rising 0 a ≡ true → r ≡ lowest a → x ≡ lowest b → cond (eqb r 0) x r ≡ lowest (a ++ b)
-first_lowest a b {r} {x} t e w = by (eqb r 0) refl
-  where
-    by : (z : Bool) → eqb r 0 ≡ z → cond z x r ≡ lowest (a ++ b)
-    by true z = first_passed a e refl b t (eqb-true r 0 z) w
-    by false z = first_refused a e refl b (eqb-false r 0 z)
+module _ (a : List Case) {A : Type 0} {r : Result A Refusal} (e : reply_number r ≡ lowest a) where
+  done : {x : A} → r ≡ Ok x → lowest a ≡ 0
+  done w = sym e ∙ ap reply_number w
+
+  refused : {x : Refusal} → r ≡ Err x → lowest a ≡ 0 → ⊥
+  refused {x} w z = not_done x (sym (ap reply_number w) ∙ e ∙ z)
+
+  -- refused, it is the lowest before all that follow; done, it hands on to them
+  pub first_refused : {B : Type 0} {x : Refusal} (s : Result B Refusal) (b : List Case) → r ≡ Err x → IsErrAnd s (λ y. y ≡ x) → reply_number s ≡ lowest (a ++ b)
+  first_refused s b w h = handed_on s w h ∙ e ∙ sym (refused_before a b (refused w))
+
+  pub first_passed : {x : A} {n : ℕ} (b : List Case) → rising 0 a ≡ true → r ≡ Ok x → n ≡ lowest b → n ≡ lowest (a ++ b)
+  first_passed b t w q = q ∙ sym (passed_before a b (lowest_none 0 a t (done w)))
+
+  -- what a call leaves that asks it first
+  pub call_refused : {B C : Type 0} {x : Refusal} {old : C} (s : Result B Refusal) (new : C) → r ≡ Err x → IsErrAnd s (λ y. y ≡ x) → answered s old ≡ outcome a new old
+  call_refused {old = old} s new w h = rw (outcome_refused a new old (refused w), handed_on s w h, e)
+
+  pub call_done : {B C : Type 0} {x : A} {new left : C} (y : B) (old : C) → r ≡ Ok x → left ≡ new → answered (Ok y) left ≡ outcome a new old
+  call_done {new = new} y old w q = rw (outcome-done a new old (done w), q)

@@ -1,17 +1,21 @@
 -- The number of each reply, as the table of the paper's section Replies has it.
-use Rattle.std.specs.Prelude.{ℕ}
-use Rattle.replies.specs.declared.Reply.{Reply}
-use Rattle.replies.specs.declared.Reply.TheVariants.{Done, Shape, Room, Lengths, Layer, Head, Format, Size, Position, Full, Sequence}
+use Rattle.std.specs.Prelude.{ℕ, Result, Ok, Err}
+use Rattle.replies.specs.declared.Refusal.{Refusal}
+use Rattle.replies.specs.declared.Refusal.TheVariants.{Shape, Room, Lengths, Layer, Head, Format, Size, Position, Full, Sequence}
 
-abbrev pub reply_number : Reply → ℕ
-reply_number Done = 0
-reply_number Shape = 1
-reply_number Room = 2
-reply_number Lengths = 3
-reply_number Layer = 4
-reply_number Head = 5
-reply_number Format = 6
-reply_number Size = 7
-reply_number Position = 8
-reply_number Full = 9
-reply_number Sequence = 10
+abbrev pub refusal_number : Refusal → ℕ
+refusal_number Shape = 1
+refusal_number Room = 2
+refusal_number Lengths = 3
+refusal_number Layer = 4
+refusal_number Head = 5
+refusal_number Format = 6
+refusal_number Size = 7
+refusal_number Position = 8
+refusal_number Full = 9
+refusal_number Sequence = 10
+
+-- 0 of a call that was done
+abbrev pub reply_number : {A : Type 0} → Result A Refusal → ℕ
+reply_number (Ok done) = 0
+reply_number (Err refusal) = refusal_number refusal

@@ -1,14 +1,14 @@
-// The answer of a call, and the paper's number for it: the paper's section Replies.
+// Why a call is refused, and the paper's number for it: the paper's section Replies.
 #![tactic(auto)]
 
-ghost use Rattle.std.specs.Prelude.{◌≡◌, cond, eqb};
-ghost use Rattle.replies.specs.Reply.{reply_number};
+ghost use Rattle.std.specs.Prelude.{◌≡◌, if◌then◌else◌, Ok, Err};
+ghost use Rattle.replies.specs.Reply.{refusal_number, reply_number};
 
-#[derive(Clone, Copy)]
-pub enum Reply {
-    Done,
+// Each refusal has the paper's number; 0 is the number of a call that was done.
+#[derive(Clone, Copy, Debug, PartialEq, Eq)]
+pub enum Refusal {
     // The shape is outside the limits.
-    Shape,
+    Shape = 1,
     // The cell or scale buffer's length is not the exact one.
     Room,
     // A layer length exceeds the capacity, or one past the layers is not 0.
@@ -29,35 +29,27 @@ pub enum Reply {
     Sequence,
 }
 
-// The paper's number of a reply.
-pub fn number(reply: Reply) -> u32
-    ensures { result ≡ reply_number reply }
-{
-    match reply {
-        Reply::Done => 0,
-        Reply::Shape => 1,
-        Reply::Room => 2,
-        Reply::Lengths => 3,
-        Reply::Layer => 4,
-        Reply::Head => 5,
-        Reply::Format => 6,
-        Reply::Size => 7,
-        Reply::Position => 8,
-        Reply::Full => 9,
-        Reply::Sequence => 10,
+impl From<Refusal> for u32 {
+    ghost from_gives = { λ refusal number. number ≡ refusal_number refusal };
+
+    fn from(refusal: Refusal) -> u32 {
+        refusal as u32
     }
 }
 
-// `reply` where a refusal's condition holds, else `other`.
-pub fn refuse(holds: bool, reply: Reply, other: Reply) -> Reply
-    ensures { reply_number result ≡ cond holds (reply_number reply) (reply_number other) }
+// The paper's number of what a call answered.
+pub fn number<T: Drop>(reply: Result<T, Refusal>) -> u32
+    ensures { result ≡ reply_number reply }
 {
-    if holds { reply } else { other }
+    match reply {
+        Ok(_) => 0,
+        Err(refusal) => refusal.into(),
+    }
 }
 
-// The first of two replies that is a refusal: `reply`, or else `other`.
-pub fn first_of(reply: Reply, other: Reply) -> Reply
-    ensures { reply_number result ≡ cond (eqb (reply_number reply) 0) (reply_number other) (reply_number reply) }
+// Refuses unless a call's condition holds.
+pub fn require(holds: bool, refusal: Refusal) -> Result<(), Refusal>
+    ensures { result ≡ (if holds then Ok tt else Err refusal) }
 {
-    refuse(number(reply) == 0, other, reply)
+    if holds { Ok(()) } else { Err(refusal) }
 }

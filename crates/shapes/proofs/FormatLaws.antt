@@ -2,13 +2,17 @@
 -- Each holds line by line, and at the numbers that a table has not.
 use mathlib.Core.Path.{◌≡◌}
 use mathlib.Core.List.{List, [], ◌∷◌}
-use mathlib.Core.Bool.{true}
+use mathlib.Core.Bool.{Bool, true, false}
 use Prim.Native.Nat.{ℕ, zero, suc, ◌%◌, ◌≤◌, ◌<◌}
 use native.Mathlib.Omega.{arith}
 use lib.Dec.{eqb}
-use borrow.Author.Tests.{eq-eqb, ltb-true}
+use borrow.Author.Tests.{eq-eqb, ltb-true, ltb-false}
 use lib.ListN.{length, get_or, get_or-eq_default}
-use Rattle.shapes.specs.Format.{Layout, f32_layout, bf16_layout, int8_layout, int4_layout, layouts, layout_of, no_layout, known}
+use Rattle.std.specs.Prelude.{Result, Ok, Err, is_ok}
+use Rattle.replies.specs.declared.Refusal.{Refusal}
+use Rattle.shapes.specs.declared.Format.{Format}
+use Rattle.shapes.specs.declared.Format.TheVariants.{F32, Bf16, Int8, Int4}
+use Rattle.shapes.specs.Format.{NumberOf, Layout, f32_layout, bf16_layout, int8_layout, int4_layout, layouts, layout_of, no_layout, known}
 
 -- a fact of each two lines of two tables
 abbrev pub Lines : {A B : Type 0} → (A → B → Type 0) → List A → List B → Type 0
@@ -49,9 +53,22 @@ pub layout_lawful : (format : ℕ) → LawfulLayout (layout_of format)
 unfolding layouts
 layout_lawful = at_every (λ f g. LawfulLayout f) layouts layouts no_layout no_layout (f32_few, (bf16_few, (int8_few, (int4_few, tt)))) none_few
 
--- a number that the table has not
+-- a number that the table has not, as a place and by its test
 pub unknown : (format : ℕ) → length layouts ≤ format → layout_of format ≡ no_layout
 unknown format h = get_or-eq_default layouts no_layout h
+
+pub unlisted : (format : ℕ) → known format ≡ false → layout_of format ≡ no_layout
+unfolding known
+unlisted format h = unknown format (ltb-false format (length layouts) h)
+
+-- a number is known where it is a format's
+pub known_if : (format : ℕ) (r : Result Format Refusal) {b : Bool} → NumberOf format r → b ≡ is_ok r → b ≡ known format
+unfolding known layouts
+known_if format (Ok F32) h e = rw (e, h)
+known_if format (Ok Bf16) h e = rw (e, h)
+known_if format (Ok Int8) h e = rw (e, h)
+known_if format (Ok Int4) h e = rw (e, h)
+known_if format (Err x) h e = rw (e, h)
 
 -- any numbers are whole groups of one
 pub ones : (d : ℕ) → eqb (d % 1) 0 ≡ true

@@ -1,12 +1,17 @@
 -- What a shape inside the limits is known by, and the sizes that follow from it.
 -- Each holds by the tests that make up the limits, one by one.
 use mathlib.Core.Path.{◌≡◌}
-use mathlib.Core.Bool.{true}
+use mathlib.Core.Bool.{Bool, true, false}
 use Prim.Native.Nat.{ℕ, ◌*◌, ◌≤◌}
 use native.Mathlib.Nat.{mul-le-mul}
 use native.Mathlib.Omega.{arith}
 use lib.Dec.{leb}
 use borrow.Author.Tests.{leb-true, eqb-true}
+use Rattle.std.specs.Prelude.{Some}
+use Rattle.std.specs.Ordering.{nat_cmp, is_le}
+use Rattle.std.specs.declared.ops.RangeInclusive.{RangeInclusive}
+use Rattle.std.specs.Range.{range_inclusive_start, range_inclusive_end, range_inclusive_exhausted, range_inclusive_contains}
+use Rattle.std.proofs.lemmas.Bool.Decides.{nat_tests}
 use Rattle.replies.proofs.Flags.{both}
 use Rattle.shapes.specs.declared.Shape.{Shape}
 use Rattle.shapes.specs.Format.{known, whole_groups_of}
@@ -21,6 +26,14 @@ pub record Limits (s : Shape) : Type 0 where
   pub size_in : (1 ≤ head_size_of s) × (head_size_of s ≤ 256)
   pub capacity_in : (1 ≤ s.capacity) × (s.capacity ≤ 4096)
   pub whole-groups : whole_groups_of s.format (head_size_of s) ≡ true
+
+-- what `contains` answers of a range of numbers with both its ends
+le_is : (a b : ℕ) → is_le (nat_cmp a b) ≡ leb a b
+le_is a b = grind (arith, nat_tests)
+
+pub in_range : (x : ℕ) {most : ℕ} {b : Bool} (s : RangeInclusive ℕ) → range_inclusive_start s ≡ 1 → range_inclusive_end s ≡ most → range_inclusive_exhausted s ≡ false
+    → b ≡ range_inclusive_contains (λ x y. Some (nat_cmp x y)) s x → b ≡ up_to most x
+in_range x {most} s e f g h = rw (h, e, f, g, le_is 1 x, le_is x most)
 
 up-to : (most x : ℕ) → up_to most x ≡ true → (1 ≤ x) × (x ≤ most)
 up-to most x h = let t = both (leb 1 x) (leb x most) h in (leb-true 1 x t.0, leb-true x most t.1)

@@ -1,6 +1,9 @@
 -- The formats, by number, and the room that a head's numbers take in each.
 -- The paper's Rows and Limits, under Shape and room.
-use Rattle.std.specs.Prelude.{ℕ, ◌*◌, ◌/◌, ◌%◌, Bool, List, [], ◌∷◌, eqb, ltb, length, get_or}
+use Rattle.std.specs.Prelude.{◌≡◌, ℕ, ◌*◌, ◌/◌, ◌%◌, Bool, false, List, [], ◌∷◌, eqb, ltb, length, get_or, Result, Ok, Err}
+use Rattle.replies.specs.declared.Refusal.{Refusal}
+use Rattle.shapes.specs.declared.Format.{Format}
+use Rattle.shapes.specs.declared.Format.TheVariants.{F32, Bf16, Int8, Int4}
 
 -- how many numbers a group has, since they come in whole groups; B and S of so many numbers
 pub record Layout : Type 0 where
@@ -27,6 +30,17 @@ layouts = f32_layout ∷ bf16_layout ∷ int8_layout ∷ int4_layout ∷ []
 -- the table has the format
 unfoldable pub known : ℕ → Bool
 known format = ltb format (length layouts)
+
+-- each format's number, and the format of a number, if it is known
+abbrev pub format_number : Format → ℕ
+format_number F32 = 0
+format_number Bf16 = 1
+format_number Int8 = 2
+format_number Int4 = 3
+
+abbrev pub NumberOf : ℕ → Result Format Refusal → Type 0
+NumberOf n (Ok format) = n ≡ format_number format
+NumberOf n (Err refusal) = known n ≡ false
 
 -- of a format that is not known, nothing takes room
 abbrev pub no_layout : Layout

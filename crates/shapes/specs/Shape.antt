@@ -1,6 +1,6 @@
 -- A shape, its limits and the room that it needs: the paper's section Shape and room, and replies 1 and 2 of its section Replies.
 use Rattle.std.specs.Prelude.{ℕ, ◌*◌, ◌/◌, Bool, cond, not, ◌&&◌, List, [], ◌∷◌, eqb, leb}
-use Rattle.replies.specs.Outcome.{Refusal, ◌when◌}
+use Rattle.replies.specs.Outcome.{Case, ◌when◌}
 use Rattle.shapes.specs.declared.Need.{Need}
 use Rattle.shapes.specs.declared.Shape.{Shape}
 use Rattle.shapes.specs.Format.{known, whole_groups_of, layout_of}
@@ -68,5 +68,5 @@ unfoldable pub exact : Shape → ℕ → ℕ → Bool
 exact s cells scales = eqb cells (cell_total s) && eqb scales (scale_total s)
 
 -- the first two refusals
-abbrev pub room_refusals : Shape → ℕ → ℕ → List Refusal
+abbrev pub room_refusals : Shape → ℕ → ℕ → List Case
 room_refusals s cells scales = (1 when not (within s)) ∷ (2 when not (exact s cells scales)) ∷ []

@@ -4,10 +4,36 @@
 ghost use Rattle.std.specs.Prelude.{◌≡◌, true, ◌≤◌};
 ghost use Rattle.replies.specs.Reply.{reply_number};
 ghost use Rattle.replies.specs.Outcome.{lowest};
-ghost use Rattle.shapes.specs.Format.{known, whole_groups_of};
+ghost use Rattle.shapes.specs.Format.{known, whole_groups_of, NumberOf};
 ghost use Rattle.shapes.specs.Shape.{cell_bytes_of, scale_words_of, total, cell_total, scale_total, up_to, limits, within, need_of, room_refusals};
 
-use replies::Reply;
+use replies::{Refusal, require};
+
+// The formats, by the paper's numbers.
+#[derive(Clone, Copy, Debug, PartialEq, Eq)]
+pub enum Format {
+    F32,
+    Bf16,
+    Int8,
+    Int4,
+}
+
+// A shape whose format is no other number is outside the limits.
+impl TryFrom<u32> for Format {
+    type Error = Refusal;
+
+    ghost try_from_gives = { NumberOf };
+
+    fn try_from(number: u32) -> Result<Format, Refusal> {
+        match number {
+            0 => Ok(Format::F32),
+            1 => Ok(Format::Bf16),
+            2 => Ok(Format::Int8),
+            3 => Ok(Format::Int4),
+            _ => Err(Refusal::Shape),
+        }
+    }
+}
 
 #[derive(Clone, Copy)]
 pub struct Shape {
@@ -29,7 +55,7 @@ pub struct Need {
 pub fn is_known(format: u32) -> bool
     ensures { result ≡ known format }
 {
-    format < 4
+    Format::try_from(format).is_ok()
 }
 
 // B: the cell bytes of one position and head.
@@ -37,12 +63,12 @@ pub fn cell_bytes(format: u32, head_size: u32) -> usize
     ensures { result ≡ cell_bytes_of format head_size }
 {
     let d = head_size as usize;
-    match format {
-        0 => 4 * d,
-        1 => 2 * d,
-        2 => d,
-        3 => d / 2,
-        _ => 0,
+    match Format::try_from(format) {
+        Ok(Format::F32) => 4 * d,
+        Ok(Format::Bf16) => 2 * d,
+        Ok(Format::Int8) => d,
+        Ok(Format::Int4) => d / 2,
+        Err(_) => 0,
     }
 }
 
@@ -50,12 +76,12 @@ pub fn cell_bytes(format: u32, head_size: u32) -> usize
 pub fn scale_words(format: u32, head_size: u32) -> usize
     ensures { result ≡ scale_words_of format head_size }
 {
-    match format {
-        0 => 0,
-        1 => 0,
-        2 => 1,
-        3 => head_size as usize / 32,
-        _ => 0,
+    match Format::try_from(format) {
+        Ok(Format::F32) => 0,
+        Ok(Format::Bf16) => 0,
+        Ok(Format::Int8) => 1,
+        Ok(Format::Int4) => head_size as usize / 32,
+        Err(_) => 0,
     }
 }
 
@@ -63,12 +89,12 @@ pub fn scale_words(format: u32, head_size: u32) -> usize
 pub fn whole_groups(format: u32, d: usize) -> bool
     ensures { result ≡ whole_groups_of format d }
 {
-    match format {
-        0 => true,
-        1 => true,
-        2 => true,
-        3 => d % 32 == 0,
-        _ => true,
+    match Format::try_from(format) {
+        Ok(Format::F32) => true,
+        Ok(Format::Bf16) => true,
+        Ok(Format::Int8) => true,
+        Ok(Format::Int4) => d % 32 == 0,
+        Err(_) => true,
     }
 }
 
@@ -83,17 +109,15 @@ pub fn is_within(shape: Shape) -> bool
 }
 
 // Whether the shape is inside the limits and both buffers have exactly the lengths that it needs.
-pub fn room_reply(shape: Shape, cells: usize, scales: usize) -> Reply
+pub fn room_reply(shape: Shape, cells: usize, scales: usize) -> Result<(), Refusal>
     ensures { reply_number result ≡ lowest (room_refusals shape cells scales) }
 {
-    if !is_within(shape) {
-        return Reply::Shape;
-    }
+    require(is_within(shape), Refusal::Shape)?;
     let need = totals(shape);
-    if (cells == need.cells) & (scales == need.scales) {
-        return Reply::Done;
-    }
-    Reply::Room
+    require(
+        (cells == need.cells) & (scales == need.scales),
+        Refusal::Room,
+    )
 }
 
 // The lengths of the buffers that a shape needs; none outside the limits.
@@ -134,15 +158,9 @@ pub fn in_limits(shape: Shape) -> bool
     ensures { result ≡ limits shape }
 {
     is_known(shape.format)
-        & (up_to(128, shape.layers)
-            & (up_to(64, shape.heads)
-                & (up_to(256, shape.head_size)
-                    & (up_to(4096, shape.capacity)
+        & ((1..=128).contains(&shape.layers)
+            & ((1..=64).contains(&shape.heads)
+                & ((1..=256).contains(&shape.head_size)
+                    & ((1..=4096).contains(&shape.capacity)
                         & whole_groups(shape.format, shape.head_size as usize)))))
-}
-
-fn up_to(most: u32, x: u32) -> bool
-    ensures { result ≡ up_to most x }
-{
-    (1 <= x) & (x <= most)
 }

@@ -7,7 +7,7 @@ use Prim.Native.Nat.{ℕ, ◌+◌, ◌≤◌, ◌<◌}
 use native.Mathlib.Omega.{arith}
 use lib.ListN.{length, replicate}
 use borrow.Author.Tests.{lt-ltb, le-leb, ltb-true, leb-true, not-false}
-use Rattle.replies.specs.Outcome.{Refusal, ◌when◌, lowest}
+use Rattle.replies.specs.Outcome.{Case, ◌when◌, lowest}
 use Rattle.replies.specs.Tried.{tells}
 use Rattle.replies.proofs.Refusals.{None, rising, lowest_none}
 use Rattle.replies.proofs.Tried.{tried_left}
@@ -40,7 +40,7 @@ pub record LayerIn (r : Record) (l cells scales : ℕ) : Type 0 where
   pub layer_in : l < r.shape.layers
 
 -- a call on a layer that is not refused: of the refusals past 4, none applies either
-module _ (r : Record) (l cells scales : ℕ) (further : List Refusal) (t : rising 4 further ≡ true)
+module _ (r : Record) (l cells scales : ℕ) (further : List Case) (t : rising 4 further ≡ true)
     (z : lowest (lent_refusals r cells scales ++ (remove_refusals r.shape l ++ further)) ≡ 0) where
   none : None (lent_refusals r cells scales ++ (remove_refusals r.shape l ++ further))
   none = lowest_none 0 (lent_refusals r cells scales ++ (remove_refusals r.shape l ++ further)) t z

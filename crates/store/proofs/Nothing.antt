@@ -6,7 +6,7 @@ use Prim.Native.Nat.{ℕ, ◌≤◌}
 use native.Mathlib.Nat.{add-zero, min-eq_left}
 use lib.Dec.{eqb}
 use lib.Seq.{set-get_or}
-use Rattle.replies.specs.Outcome.{Refusal, lowest, outcome}
+use Rattle.replies.specs.Outcome.{Case, lowest, outcome}
 use Rattle.replies.proofs.Flags.{alike}
 use Rattle.shapes.specs.Buffers.{Buffers}
 use Rattle.buffers.proofs.Nothing.{no_positions, removed_none, appended_none}
@@ -14,7 +14,7 @@ use Rattle.store.specs.declared.Record.{Record}
 use Rattle.store.specs.Record.{length_of, with_length_of}
 use Rattle.store.specs.Calls.{store, append_of, truncate_of}
 
-same_left : {A : Type 0} (refusals : List Refusal) (new old : A) → new ≡ old → (outcome refusals new old).result ≡ old
+same_left : {A : Type 0} (refusals : List Case) (new old : A) → new ≡ old → (outcome refusals new old).result ≡ old
 unfolding outcome
 same_left refusals new old e = rw e (alike (eqb (lowest refusals) 0) old)
 

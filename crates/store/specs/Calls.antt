@@ -1,6 +1,6 @@
 -- What each call answers and leaves, refusals too: the paper's sections Replies and Calls.
 use Rattle.std.specs.Prelude.{ℕ, ◌+◌, min, Bool, not, ◌&&◌, List, [], ◌∷◌, ◌++◌, eqb, ltb, leb, length, replicate}
-use Rattle.replies.specs.Outcome.{Refusal, ◌when◌, Outcome, outcome, answered}
+use Rattle.replies.specs.Outcome.{Case, ◌when◌, Outcome, outcome, answered}
 use Rattle.shapes.specs.Shape.{head_size_of, positions, cell_total, scale_total, within, room_refusals}
 use Rattle.shapes.specs.declared.Shape.{Shape}
 use Rattle.shapes.specs.Buffers.{Buffers, buffers}
@@ -21,20 +21,20 @@ abbrev pub store : Record → Buffers → Store
 store r b = record { rec = r; memory = b }
 
 -- the refusals of the two buffers' lengths
-abbrev pub buffer_refusals : Shape → Buffers → List Refusal
+abbrev pub buffer_refusals : Shape → Buffers → List Case
 buffer_refusals s b = room_refusals s (length b.cells) (length b.scales)
 
 -- the refusals of a record, alone, with buffers of some lengths, and with both buffers
-abbrev pub lengths_refusal : Record → List Refusal
+abbrev pub lengths_refusal : Record → List Case
 lengths_refusal r = (3 when not (good_lengths r)) ∷ []
 
-abbrev pub record_refusals : Record → List Refusal
+abbrev pub record_refusals : Record → List Case
 record_refusals r = (1 when not (within r.shape)) ∷ lengths_refusal r
 
-abbrev pub lent_refusals : Record → ℕ → ℕ → List Refusal
+abbrev pub lent_refusals : Record → ℕ → ℕ → List Case
 lent_refusals r cells scales = room_refusals r.shape cells scales ++ lengths_refusal r
 
-abbrev pub store_refusals : Record → Buffers → List Refusal
+abbrev pub store_refusals : Record → Buffers → List Case
 store_refusals r b = lent_refusals r (length b.cells) (length b.scales)
 
 -- the conditions of replies 4, 5 and 9: a layer and a head that are there, and room for as many keys past `len` positions
@@ -48,14 +48,14 @@ abbrev pub fits_after : Shape → ℕ → ℕ → Bool
 fits_after s len keys = leb (len + positions s keys) s.capacity
 
 -- the refusals of each call past those of the store, where layer l has `len` positions
-abbrev pub append_refusals : Shape → ℕ → ℕ → ℕ → ℕ → List Refusal
+abbrev pub append_refusals : Shape → ℕ → ℕ → ℕ → ℕ → List Case
 append_refusals s l len keys values =
     (4 when not (has_layer s l)) ∷ (7 when not (whole_rows s keys values)) ∷ (9 when not (fits_after s len keys)) ∷ []
 
-abbrev pub remove_refusals : Shape → ℕ → List Refusal
+abbrev pub remove_refusals : Shape → ℕ → List Case
 remove_refusals s l = (4 when not (has_layer s l)) ∷ []
 
-abbrev pub read_refusals : Shape → ℕ → ℕ → ℕ → ℕ → ℕ → ℕ → List Refusal
+abbrev pub read_refusals : Shape → ℕ → ℕ → ℕ → ℕ → ℕ → ℕ → List Case
 read_refusals s l len side h p out =
     (4 when not (has_layer s l))
     ∷ (5 when not (has_head s side h))
@@ -91,7 +91,7 @@ truncate_of r b l t =
     (store r b)
 
 -- advance: the sequence number alone
-abbrev pub sequence_refusal : Record → ℕ → List Refusal
+abbrev pub sequence_refusal : Record → ℕ → List Case
 sequence_refusal r count = (10 when not (leb (seq_len_of r + count) 4294967295)) ∷ []
 
 unfoldable pub advance_of : Record → ℕ → Outcome Record

@@ -7,7 +7,7 @@ use Prim.Native.Nat.{ℕ, ◌+◌}
 use lib.Dec.{eqb, leb}
 use lib.ListN.{length}
 use borrow.Author.Tests.{ltb-true, leb-true, eqb-true, not-false}
-use Rattle.replies.specs.Outcome.{Refusal, ◌when◌, lowest, outcome}
+use Rattle.replies.specs.Outcome.{Case, ◌when◌, lowest, outcome}
 use Rattle.replies.proofs.Refusals.{None, rising, lowest_none}
 use Rattle.shapes.specs.declared.Shape.{Shape}
 use Rattle.shapes.specs.Buffers.{Buffers}
@@ -29,7 +29,7 @@ either : {s : Shape} {f g : ℕ → Rows} {new old : Store} (flag : Bool) → (f
 either true x y = x refl
 either false x y = y
 
-outcome_renders : {s : Shape} {f g : ℕ → Rows} {new old : Store} (refusals : List Refusal) → rising 0 refusals ≡ true
+outcome_renders : {s : Shape} {f g : ℕ → Rows} {new old : Store} (refusals : List Case) → rising 0 refusals ≡ true
     → (None refusals → Renders s new f) → Renders s old g → let flag = eqb (lowest refusals) 0 in Renders s (cond flag new old) (λ l. cond flag (f l) (g l))
 outcome_renders refusals up x y = either (eqb (lowest refusals) 0) (λ h. x (lowest_none 0 refusals up (eqb-true _ 0 h))) y
 
