@@ -13,7 +13,6 @@ ghost use Rattle.buffers.specs.Fits.{InLayer, HeadRows};
 
 use encode::put_row;
 use places::span_of;
-use replies::number;
 use shapes::{Shape, cell_bytes, room_reply, scale_words};
 
 // Zeroes both buffers.
@@ -81,7 +80,7 @@ pub fn remove_rows(
 fn has_room(shape: Shape, cells: usize, scales: usize) -> bool
     ensures { result ≡ (within shape && exact shape cells scales) }
 {
-    number(room_reply(shape, cells, scales)) == 0
+    room_reply(shape, cells, scales).is_ok()
 }
 
 // Eight positions at a time, since their numbers lie side by side: memory is read nearly in its order.

@@ -84,7 +84,7 @@ fn get_int4(cells: &[u8], scales: &[u32], out: &mut [u32])
     while g < scales.len() {
         let a = g * 32;
         let c = g * 16;
-        unpack_i4_group(
+        let _ = unpack_i4_group(
             &cells[c..c + 16],
             word_to_f32(scales[g]),
             &mut out[a..a + 32],

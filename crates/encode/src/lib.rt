@@ -122,7 +122,7 @@ fn put_group(run: &[u32], cells: &mut [u8]) -> u32
     ensures cells { cells.new ≡ packed run.now (scale_of 7 run.now) }
 {
     let scale = compute_int4_scale(run);
-    pack_i4_group(run, scale, cells);
+    let _ = pack_i4_group(run, scale, cells);
     f32_to_word(scale)
 }
 

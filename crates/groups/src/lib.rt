@@ -7,39 +7,33 @@ ghost use Rattle.groups.specs.Group.{packed, half, unpacked, holds, group_reply,
 
 use numbers::codes::{dequantize_i4, quantize_i4};
 use numbers::words::f32_to_word;
-use replies::Reply;
+use replies::{Refusal, require};
 
 // Codes 32 numbers into the first 16 bytes. The Rust's `pack_i4_group`.
-pub fn pack_i4_group(src: &[u32], scale: f32, dst: &mut [u8]) -> Reply
+pub fn pack_i4_group(src: &[u32], scale: f32, dst: &mut [u8]) -> Result<(), Refusal>
     ensures reply { reply_number result ≡ group_reply src.now dst.old }
     ensures bytes { dst.new ≡ pack_into src.now scale dst.old }
 {
-    if has_group(src.len(), dst.len()) {
-        pack(src, scale, dst);
-        Reply::Done
-    } else {
-        Reply::Size
-    }
+    require(has_group(src.len(), dst.len()), Refusal::Size)?;
+    pack(src, scale, dst);
+    Ok(())
 }
 
 // Reads 32 numbers out of the first 16 bytes. The Rust's `unpack_i4_group`.
-pub fn unpack_i4_group(packed: &[u8], scale: f32, dst: &mut [u32]) -> Reply
+pub fn unpack_i4_group(packed: &[u8], scale: f32, dst: &mut [u32]) -> Result<(), Refusal>
     ensures reply { reply_number result ≡ group_reply dst.old packed.now }
     ensures words { dst.new ≡ unpack_into packed.now scale dst.old }
 {
-    if has_group(dst.len(), packed.len()) {
-        unpack(packed, scale, dst);
-        Reply::Done
-    } else {
-        Reply::Size
-    }
+    require(has_group(dst.len(), packed.len()), Refusal::Size)?;
+    unpack(packed, scale, dst);
+    Ok(())
 }
 
 // Whether a group's numbers and bytes are there.
 fn has_group(numbers: usize, bytes: usize) -> bool
     ensures { result ≡ holds numbers bytes }
 {
-    if numbers < 32 { false } else { 16 <= bytes }
+    (32 <= numbers) & (16 <= bytes)
 }
 
 // The 16 bytes of a group.

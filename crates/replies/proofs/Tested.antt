@@ -3,7 +3,9 @@ use mathlib.Core.Path.{◌≡◌, refl, sym, ap, ◌∙◌}
 use mathlib.Core.Bool.{Bool, true, false, not}
 use mathlib.Core.List.{List, [], ◌∷◌, ◌++◌}
 use Prim.Native.Nat.{ℕ}
-use Rattle.std.specs.Prelude.{Result, Ok, Err, IsErrAnd, if◌then◌else◌, ⊤}
+use lib.Dec.{eqb}
+use borrow.Author.Tests.{ne_eqb}
+use Rattle.std.specs.Prelude.{Result, Ok, Err, IsErrAnd, is_ok, if◌then◌else◌, ⊤}
 use Rattle.replies.specs.declared.Refusal.{Refusal}
 use Rattle.replies.specs.declared.Refusal.TheVariants.{Shape, Room, Lengths, Layer, Head, Format, Size, Position, Full, Sequence}
 use Rattle.replies.specs.Reply.{refusal_number, reply_number}
@@ -44,6 +46,23 @@ module _ {r : Result ⊤ Refusal} (x : Refusal) (holds : Bool) (e : r ≡ (if ho
       by : (t : Bool) → (if t then Ok (tt {0}) else Err x) ≡ Ok y → t ≡ true
       by true q = refl
       by false q = cc
+
+  -- refused, it did not hold, and that is what is handed on
+  pub missed : {B : Type 0} {y : Refusal} (s : Result B Refusal) → r ≡ Err y → IsErrAnd s (λ z. z ≡ y) → (holds ≡ false) × (s ≡ Err x)
+  missed {B = B} {y = y} s w h = let t = by holds (sym e ∙ w) in (t.0, err s (rw t.1 at h))
+    where
+      by : (t : Bool) → (if t then Ok (tt {0}) else Err x) ≡ Err y → (t ≡ false) × (y ≡ x)
+      by true q = cc
+      by false q = (refl, cc)
+
+      err : (s : Result B Refusal) → IsErrAnd s (λ z. z ≡ x) → s ≡ Err x
+      err (Ok b) h = absurd h
+      err (Err z) h = rw h
+
+-- whether an answer is no refusal
+pub is_done : {A : Type 0} (r : Result A Refusal) {b : Bool} → b ≡ is_ok r → b ≡ eqb (reply_number r) 0
+is_done (Ok x) e = e
+is_done (Err x) e = e ∙ sym (ne_eqb _ 0 (not_done x))
 
 module _ (a : List Case) {A : Type 0} {r : Result A Refusal} (e : reply_number r ≡ lowest a) where
   done : {x : A} → r ≡ Ok x → lowest a ≡ 0

@@ -1,8 +1,9 @@
 -- The lowest refusal of a shape and its room is none exactly where both tests pass.
-use mathlib.Core.Path.{◌≡◌, refl}
+use mathlib.Core.Path.{◌≡◌, refl, ◌∙◌}
 use mathlib.Core.Bool.{Bool, true, false, cond, not, ◌&&◌}
 use lib.Dec.{eqb}
 use Rattle.replies.specs.Outcome.{lowest}
+use Rattle.replies.proofs.Tested.{is_done}
 use Rattle.shapes.specs.Shape.{within, exact}
 use Rattle.buffers.proofs.has_room.Goals as goal
 
@@ -15,4 +16,4 @@ pub returns : goal.returns
 unfolding lowest
 returns c =
     let a = c.args in
-    rw (c.number.ensures, c.room_reply.ensures) (no-refusal (within a.shape) (exact a.shape a.cells a.scales))
+    is_done _ c.is_ok.ensures.value ∙ rw c.room_reply.ensures (no-refusal (within a.shape) (exact a.shape a.cells a.scales))

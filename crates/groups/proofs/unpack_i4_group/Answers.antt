@@ -1,18 +1,22 @@
 -- The test that led to each end is the definition's.
-use mathlib.Core.Path.{◌∙◌, sym}
+use Rattle.replies.specs.declared.Refusal.TheVariants.{Size}
+use Rattle.replies.proofs.Flags.{passed, failed}
+use Rattle.replies.proofs.Tested.{held, missed}
 use Rattle.groups.specs.Group.{group_reply, unpack_into}
 use Rattle.groups.proofs.GroupLaws.{enough}
 use Rattle.groups.proofs.unpack_i4_group.Goals as goal
 
 pub unpack-requires : goal.unpack-requires
-unpack-requires c = enough _ _ (sym c.has_group.ensures ∙ c.if-has_group.true)
+unpack-requires c = enough _ _ (passed c.has_group.ensures (held Size _ c.require.ensures c.in_ok-require.was))
 
-pub returns-then-has_group : goal.returns-then-has_group
+pub returns-in_err-require : goal.returns-in_err-require
 unfolding group_reply unpack_into
-returns-then-has_group c =
-    let there = sym c.has_group.ensures ∙ c.if-has_group.true in
+returns-in_err-require c =
+    let m = missed Size _ c.require.ensures _ c.in_err-require.was c.from_residual.ensures.1 in
+    record { reply = rw (m.1, failed c.has_group.ensures m.0); words = rw (failed c.has_group.ensures m.0) }
+
+pub returns : goal.returns
+unfolding group_reply unpack_into
+returns c =
+    let there = passed c.has_group.ensures (held Size _ c.require.ensures c.in_ok-require.was) in
     record { reply = rw there; words = rw there c.unpack.ensures }
-
-pub returns-else-has_group : goal.returns-else-has_group
-unfolding group_reply unpack_into
-returns-else-has_group c = let missing = sym c.has_group.ensures ∙ c.if-has_group.false in record { reply = rw missing; words = rw missing }
