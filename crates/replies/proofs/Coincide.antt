@@ -8,6 +8,7 @@ use Rattle.replies.specs.declared.Refusal.{Refusal}
 use Rattle.replies.specs.declared.Refusal.TheVariants.{Shape, Room, Lengths, Layer, Head, Format, Size, Position, Full, Sequence}
 use Rattle.replies.specs.Reply.{reply_number}
 use Rattle.replies.specs.Outcome.{Outcome, answered}
+use Rattle.replies.proofs.Tested.{not_done}
 
 reply_of : ℕ → Result ⊤ Refusal
 reply_of n = get_or (Ok tt ∷ Err Shape ∷ Err Room ∷ Err Lengths ∷ Err Layer ∷ Err Head ∷ Err Format ∷ Err Size ∷ Err Position ∷ Err Full ∷ []) n (Err Sequence)
@@ -37,3 +38,18 @@ pub coincide : {A : Type 0} (o : Outcome A) → One o
 coincide {A} o r r' x x' e e' =
     let q = e ∙ sym e' in
     (same_reply r r' (ap (λ (o : Outcome A). o.reply) q), ap (λ (o : Outcome A). o.result) q)
+
+-- of answers with a value x, which is d where they are refused: the number and x tell which answer it is
+abbrev pub value : {A : Type 0} → A → Result A Refusal → A
+value d (Ok x) = x
+value d (Err e) = d
+
+pub same_value : {A : Type 0} (d : A) (a a' : Result A Refusal) → reply_number a ≡ reply_number a' → value d a ≡ value d a' → a ≡ a'
+same_value d (Ok x) (Ok x') e q = ap (λ (y : _). Ok y) q
+same_value d (Ok x) (Err y) e q = absurd (not_done y (sym e))
+same_value d (Err x) (Ok y) e q = absurd (not_done x e)
+same_value {A} d (Err x) (Err x') e q = ap refused (same_reply (Err x) (Err x') e)
+  where
+    refused : Result ⊤ Refusal → Result A Refusal
+    refused (Ok t) = Ok d
+    refused (Err x) = Err x

@@ -13,7 +13,7 @@ use Rattle.replies.specs.Outcome.{Case, ◌when◌, lowest, answered, outcome}
 use Rattle.replies.proofs.Refusals.{rising, lowest_none, passed_before, refused_before, outcome-done, outcome_refused}
 
 -- no refusal has the number 0
-not_done : (x : Refusal) → refusal_number x ≡ 0 → ⊥
+pub not_done : (x : Refusal) → refusal_number x ≡ 0 → ⊥
 not_done Shape e = cc
 not_done Room e = cc
 not_done Lengths e = cc
@@ -29,6 +29,32 @@ not_done Sequence e = cc
 pub handed_on : {A B : Type 0} {r : Result A Refusal} {x : Refusal} (s : Result B Refusal) → r ≡ Err x → IsErrAnd s (λ y. y ≡ x) → reply_number s ≡ reply_number r
 handed_on (Ok b) e h = absurd h
 handed_on (Err y) e h = rw (e, h)
+
+-- whether an answer is no refusal
+pub is_done : {A : Type 0} (r : Result A Refusal) {b : Bool} → b ≡ is_ok r → b ≡ eqb (reply_number r) 0
+is_done (Ok x) e = e
+is_done (Err x) e = e ∙ sym (ne_eqb _ 0 (not_done x))
+
+module _ (a : List Case) {A : Type 0} {r : Result A Refusal} (e : reply_number r ≡ lowest a) where
+  pub done : {x : A} → r ≡ Ok x → lowest a ≡ 0
+  done w = sym e ∙ ap reply_number w
+
+  refused : {x : Refusal} → r ≡ Err x → lowest a ≡ 0 → ⊥
+  refused {x} w z = not_done x (sym (ap reply_number w) ∙ e ∙ z)
+
+  -- refused, it is the lowest before all that follow; done, it hands on to them
+  pub first_refused : {B : Type 0} {x : Refusal} (s : Result B Refusal) (b : List Case) → r ≡ Err x → IsErrAnd s (λ y. y ≡ x) → reply_number s ≡ lowest (a ++ b)
+  first_refused s b w h = handed_on s w h ∙ e ∙ sym (refused_before a b (refused w))
+
+  pub first_passed : {x : A} {n : ℕ} (b : List Case) → rising 0 a ≡ true → r ≡ Ok x → n ≡ lowest b → n ≡ lowest (a ++ b)
+  first_passed b t w q = q ∙ sym (passed_before a b (lowest_none 0 a t (done w)))
+
+  -- what a call leaves that asks it first
+  pub call_refused : {B C : Type 0} {x : Refusal} {old : C} (s : Result B Refusal) (new : C) → r ≡ Err x → IsErrAnd s (λ y. y ≡ x) → answered s old ≡ outcome a new old
+  call_refused {old = old} s new w h = rw (outcome_refused a new old (refused w), handed_on s w h, e)
+
+  pub call_done : {C : Type 0} {x : A} {new left : C} (old : C) → r ≡ Ok x → left ≡ new → record { reply = 0; result = left } ≡ outcome a new old
+  call_done {new = new} old w q = rw (outcome-done a new old (done w), q)
 
 -- a condition p that was required, tested as `holds`: what it answers, and that it holds where it is not refused
 module _ {r : Result ⊤ Refusal} (x : Refusal) (holds : Bool) (e : r ≡ (if holds then Ok (tt {0}) else Err x)) where
@@ -59,28 +85,11 @@ module _ {r : Result ⊤ Refusal} (x : Refusal) (holds : Bool) (e : r ≡ (if ho
       err (Ok b) h = absurd h
       err (Err z) h = rw h
 
--- whether an answer is no refusal
-pub is_done : {A : Type 0} (r : Result A Refusal) {b : Bool} → b ≡ is_ok r → b ≡ eqb (reply_number r) 0
-is_done (Ok x) e = e
-is_done (Err x) e = e ∙ sym (ne_eqb _ 0 (not_done x))
+  -- before other refusals: refused, it is the lowest; held, it hands on to them
+  pub unmet : {p : Bool} {B : Type 0} {y : Refusal} (s : Result B Refusal) (b : List Case) → holds ≡ p → r ≡ Err y → IsErrAnd s (λ z. z ≡ y)
+      → reply_number s ≡ lowest ((refusal_number x when not p) ∷ b)
+  unmet {p} s b q w h = first_refused ((refusal_number x when not p) ∷ []) (required q) s b w h
 
-module _ (a : List Case) {A : Type 0} {r : Result A Refusal} (e : reply_number r ≡ lowest a) where
-  done : {x : A} → r ≡ Ok x → lowest a ≡ 0
-  done w = sym e ∙ ap reply_number w
-
-  refused : {x : Refusal} → r ≡ Err x → lowest a ≡ 0 → ⊥
-  refused {x} w z = not_done x (sym (ap reply_number w) ∙ e ∙ z)
-
-  -- refused, it is the lowest before all that follow; done, it hands on to them
-  pub first_refused : {B : Type 0} {x : Refusal} (s : Result B Refusal) (b : List Case) → r ≡ Err x → IsErrAnd s (λ y. y ≡ x) → reply_number s ≡ lowest (a ++ b)
-  first_refused s b w h = handed_on s w h ∙ e ∙ sym (refused_before a b (refused w))
-
-  pub first_passed : {x : A} {n : ℕ} (b : List Case) → rising 0 a ≡ true → r ≡ Ok x → n ≡ lowest b → n ≡ lowest (a ++ b)
-  first_passed b t w q = q ∙ sym (passed_before a b (lowest_none 0 a t (done w)))
-
-  -- what a call leaves that asks it first
-  pub call_refused : {B C : Type 0} {x : Refusal} {old : C} (s : Result B Refusal) (new : C) → r ≡ Err x → IsErrAnd s (λ y. y ≡ x) → answered s old ≡ outcome a new old
-  call_refused {old = old} s new w h = rw (outcome_refused a new old (refused w), handed_on s w h, e)
-
-  pub call_done : {B C : Type 0} {x : A} {new left : C} (y : B) (old : C) → r ≡ Ok x → left ≡ new → answered (Ok y) left ≡ outcome a new old
-  call_done {new = new} y old w q = rw (outcome-done a new old (done w), q)
+  pub met : {p : Bool} {y : ⊤} {n : ℕ} (b : List Case) → holds ≡ p → r ≡ Ok y → n ≡ lowest b → n ≡ lowest ((refusal_number x when not p) ∷ b)
+  unfolding lowest
+  met b q w m = rw (← q, held w, m)

@@ -7,7 +7,9 @@ use Prim.Native.Nat.{ℕ, ◌+◌, ◌≤◌, ◌<◌}
 use native.Mathlib.Omega.{arith}
 use lib.ListN.{length, replicate}
 use borrow.Author.Tests.{lt-ltb, le-leb, ltb-true, leb-true, not-false}
-use Rattle.replies.specs.Outcome.{Case, ◌when◌, lowest}
+use Rattle.std.specs.Prelude.{Result, Ok, Err, IsErr}
+use Rattle.replies.specs.declared.Refusal.{Refusal}
+use Rattle.replies.specs.Outcome.{Case, ◌when◌, lowest, answered}
 use Rattle.replies.specs.Tried.{tells}
 use Rattle.replies.proofs.Refusals.{None, rising, lowest_none}
 use Rattle.replies.proofs.Tried.{tried_left}
@@ -21,11 +23,16 @@ use Rattle.places.proofs.SpanLaws.{SpanIn}
 use Rattle.places.proofs.LentLaws.{Inside, lent_in}
 use Rattle.buffers.specs.Calls.{appended, removed, layer_fits_of, whole_rows, append_rows_of, remove_rows_of}
 use Rattle.store.specs.declared.Record.{Record}
-use Rattle.store.specs.Record.{seq_len_of, length_of}
-use Rattle.store.specs.Calls.{store, buffer_refusals, record_refusals, lent_refusals, store_refusals, fits_after, append_refusals, remove_refusals, sequence_refusal}
+use Rattle.store.specs.Record.{seq_len_of, length_of, new_record_of}
+use Rattle.store.specs.Calls.{store, no_shape, opened, buffer_refusals, record_refusals, lent_refusals, store_refusals, fits_after, append_refusals, remove_refusals, sequence_refusal}
 use Rattle.store.proofs.StoreLaws.{Sound, sound_limits, len_in}
 
--- opening: buffers that are not refused have the lengths of the zeros
+-- opening: refused, no store is open
+pub opened_none : (r : Result Record Refusal) (b : Buffers) → IsErr r → opened r b ≡ answered r (store (new_record_of no_shape) b)
+opened_none (Ok t) b h = cc
+opened_none (Err y) b h = refl
+
+-- buffers that are not refused have the lengths of the zeros
 pub zeros_left : (s : Shape) (b : Buffers) {cells scales : List ℕ} → lowest (buffer_refusals s b) ≡ 0
     → cells ≡ replicate (length b.cells) 0 → scales ≡ replicate (length b.scales) 0
     → buffers cells scales ≡ buffers (replicate (cell_total s) 0) (replicate (scale_total s) 0)

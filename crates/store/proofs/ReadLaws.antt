@@ -11,7 +11,6 @@ use borrow.Author.Tests.{ltb-true, eqb-true, not-false}
 use Rattle.replies.specs.Outcome.{lowest}
 use Rattle.replies.specs.Tried.{tells}
 use Rattle.replies.proofs.Flags.{both}
-use Rattle.replies.proofs.Refusals.{still_passed}
 use Rattle.shapes.specs.Buffers.{buffers}
 use Rattle.places.specs.declared.Span.{Span}
 use Rattle.places.specs.Span.{span_of}
@@ -33,10 +32,10 @@ row_there r l side h p out cells scales z =
     block_there (layer_there r l cells scales _ refl z) (ltb-true side 2 w.1) (ltb-true h _ w.0) (omega arith) (eqb-true out _ (not-false _ t.1.0))
 
 -- and so its part of each
-pub row_inside : (r : Record) (l side h p out cells scales : ℕ) {reply n : ℕ} {x : Span}
-    → n ≡ reply → reply ≡ lowest (lent_refusals r cells scales ++ read_refusals r.shape l (length_of r l) side h p out) → n ≡ 0
+pub row_inside : (r : Record) (l side h p out cells scales : ℕ) {x : Span}
+    → lowest (lent_refusals r cells scales ++ read_refusals r.shape l (length_of r l) side h p out) ≡ 0
     → x ≡ span_of r.shape l side h p 1 → Inside x cells scales
-row_inside r l side h p out cells scales q e z s = block_lent (row_there r l side h p out cells scales (still_passed q e z)) s
+row_inside r l side h p out cells scales z s = block_lent (row_there r l side h p out cells scales z) s
 
 pub row_read : {r : Record} {l side h p : ℕ} {x : Span} {done : Bool} {y : List ℕ} (cells scales out : List ℕ)
     → BlockIn r l side h p 1 (length out) (length cells) (length scales) → x ≡ span_of r.shape l side h p 1

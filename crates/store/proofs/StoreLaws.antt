@@ -7,14 +7,16 @@ use native.Mathlib.Nat.{mul-le-mul}
 use native.Mathlib.Omega.{arith}
 use borrow.Author.Tests.{ltb-false, lt-ltb, not-true, not-false}
 use Rattle.lists.proofs.Some.{some_none}
-use Rattle.replies.specs.Outcome.{lowest}
+use Rattle.std.specs.Prelude.{Result, Ok, Err, IsErr}
+use Rattle.replies.specs.declared.Refusal.{Refusal}
+use Rattle.replies.specs.Outcome.{lowest, answered}
 use Rattle.replies.proofs.Refusals.{lowest_none}
 use Rattle.shapes.specs.Shape.{bytes_of, words_of, within}
 use Rattle.shapes.proofs.ShapeLaws.{Limits, limits_facts, within-limits, cell_bytes_most, scale-words_most}
 use Rattle.shapes.specs.declared.Shape.{Shape}
 use Rattle.store.specs.declared.Record.{Record}
 use Rattle.store.specs.Record.{length_of, most_of, good_lengths, position_bytes_of}
-use Rattle.store.specs.Calls.{record_refusals, lent_refusals}
+use Rattle.store.specs.Calls.{counted, record_refusals, lent_refusals}
 
 -- a record that is not refused, and a store that is not refused
 pub record Sound (r : Record) : Type 0 where
@@ -59,3 +61,8 @@ layer_bytes_in r l h b =
     let w = (sound_limits r h).capacity_in in
     let x : length_of r l ≤ 4096 = omega (arith, len_in r l h b) in
     mul-le-mul x (position-bytes_in r.shape h.shape_in).2
+
+-- a refused count is 0
+pub counted_none : (r : Result ℕ Refusal) → IsErr r → counted r ≡ answered r 0
+counted_none (Ok n) h = cc
+counted_none (Err y) h = refl

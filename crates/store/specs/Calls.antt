@@ -1,6 +1,8 @@
 -- What each call answers and leaves, refusals too: the paper's sections Replies and Calls.
-use Rattle.std.specs.Prelude.{ℕ, ◌+◌, min, Bool, not, ◌&&◌, List, [], ◌∷◌, ◌++◌, eqb, ltb, leb, length, replicate}
-use Rattle.replies.specs.Outcome.{Case, ◌when◌, Outcome, outcome, answered}
+use Rattle.std.specs.Prelude.{ℕ, ◌+◌, min, Bool, not, ◌&&◌, List, [], ◌∷◌, ◌++◌, eqb, ltb, leb, length, replicate, Result, Ok, Err}
+use Rattle.replies.specs.declared.Refusal.{Refusal}
+use Rattle.replies.specs.Reply.{refusal_number}
+use Rattle.replies.specs.Outcome.{Case, ◌when◌, Outcome, outcome}
 use Rattle.shapes.specs.Shape.{head_size_of, positions, cell_total, scale_total, within, room_refusals}
 use Rattle.shapes.specs.declared.Shape.{Shape}
 use Rattle.shapes.specs.Buffers.{Buffers, buffers}
@@ -8,8 +10,6 @@ use Rattle.rows.specs.Row.{row_numbers}
 use Rattle.places.specs.Place.{cells_at_of, scales_at}
 use Rattle.buffers.specs.Calls.{appended, removed, whole_rows}
 use Rattle.store.specs.declared.Record.{Record}
-use Rattle.store.specs.declared.Changed.{Changed}
-use Rattle.store.specs.declared.Counted.{Counted}
 use Rattle.store.specs.Record.{seq_len_of, length_of, good_lengths, new_record_of, with_length_of, with_seq_len, byte_count}
 
 -- a record and both buffers
@@ -113,12 +113,11 @@ unfoldable pub read_of : Record → Buffers → ℕ → ℕ → ℕ → ℕ → 
 read_of r b l side h p out =
     outcome (store_refusals r b ++ read_refusals r.shape l (length_of r l) side h p (length out)) (row_at r.shape l side h p b) out
 
--- what a call's answer and the lent memory say together
-abbrev pub changed_store : Changed → List ℕ → List ℕ → Outcome Store
-changed_store a cells scales = answered a.reply (store a.after (buffers cells scales))
+-- what is opened, and counted: refused, no store is open, and the count is 0
+abbrev pub opened : Result Record Refusal → Buffers → Outcome Store
+opened (Ok r) b = record { reply = 0; result = store r b }
+opened (Err x) b = record { reply = refusal_number x; result = store (new_record_of no_shape) b }
 
-abbrev pub changed : Changed → Outcome Record
-changed a = answered a.reply a.after
-
-abbrev pub counted : Counted → Outcome ℕ
-counted a = answered a.reply a.count
+abbrev pub counted : Result ℕ Refusal → Outcome ℕ
+counted (Ok n) = record { reply = 0; result = n }
+counted (Err x) = record { reply = refusal_number x; result = 0 }
