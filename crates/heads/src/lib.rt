@@ -11,14 +11,14 @@ ghost use Rattle.heads.specs.Calls.{head_refusals, head_scores_of, head_sums_of}
 
 use attention::has_scores;
 use places::span_of;
-use replies::{Reply, first_of, number, refuse};
+use replies::{Refusal, require};
 use scores::block_scores;
-use store::{Record, length_of, store_reply};
+use store::Record;
 use sums::block_sums;
 
 // Scores as many positions of a head's keys as `out` has places, under a query and a scale.
 pub fn scores(
-    record: Record,
+    record: &Record,
     cells: &[u8],
     scales: &[u32],
     layer: u32,
@@ -26,11 +26,11 @@ pub fn scores(
     query: &[f32],
     scale: f32,
     out: &mut [u32],
-) -> Reply
+) -> Result<(), Refusal>
     ensures { answered result out.new
-        ≡ head_scores_of «record» (buffers cells.now scales.now) layer head query.now scale out.old }
+        ≡ head_scores_of «record».now (buffers cells.now scales.now) layer head query.now scale out.old }
 {
-    let reply = head_reply(
+    head_reply(
         record,
         cells.len(),
         scales.len(),
@@ -38,39 +38,33 @@ pub fn scores(
         head,
         query.len(),
         out.len(),
+    )?;
+    let span = span_of(record.shape, layer, 0, head, 0, out.len());
+    block_scores(
+        record.shape.format,
+        query,
+        scale,
+        &cells[span.cells_from..span.cells_to],
+        &scales[span.scales_from..span.scales_to],
+        out,
     );
-    if number(reply) == 0 {
-        let span = span_of(record.shape, layer, 0, head, 0, out.len());
-        let a = span.cells_from;
-        let b = span.cells_to;
-        let c = span.scales_from;
-        let d = span.scales_to;
-        block_scores(
-            record.shape.format,
-            query,
-            scale,
-            &cells[a..b],
-            &scales[c..d],
-            out,
-        );
-    }
-    reply
+    Ok(())
 }
 
 // Sums as many positions of a head's values as there are weights.
 pub fn sums(
-    record: Record,
+    record: &Record,
     cells: &[u8],
     scales: &[u32],
     layer: u32,
     head: u32,
     weights: &[f32],
     out: &mut [u32],
-) -> Reply
+) -> Result<(), Refusal>
     ensures { answered result out.new
-        ≡ head_sums_of «record» (buffers cells.now scales.now) layer head weights.now out.old }
+        ≡ head_sums_of «record».now (buffers cells.now scales.now) layer head weights.now out.old }
 {
-    let reply = head_reply(
+    head_reply(
         record,
         cells.len(),
         scales.len(),
@@ -78,48 +72,38 @@ pub fn sums(
         head,
         out.len(),
         weights.len(),
+    )?;
+    let span = span_of(record.shape, layer, 1, head, 0, weights.len());
+    block_sums(
+        record.shape.format,
+        weights,
+        &cells[span.cells_from..span.cells_to],
+        &scales[span.scales_from..span.scales_to],
+        out,
     );
-    if number(reply) == 0 {
-        let span = span_of(record.shape, layer, 1, head, 0, weights.len());
-        let a = span.cells_from;
-        let b = span.cells_to;
-        let c = span.scales_from;
-        let d = span.scales_to;
-        block_sums(
-            record.shape.format,
-            weights,
-            &cells[a..b],
-            &scales[c..d],
-            out,
-        );
-    }
-    reply
+    Ok(())
 }
 
 // The lowest refusal: `given` numbers of a query or of an output, `m` scores or weights.
 fn head_reply(
-    record: Record,
+    record: &Record,
     cells: usize,
     scales: usize,
     layer: u32,
     head: u32,
     given: usize,
     m: usize,
-) -> Reply
+) -> Result<(), Refusal>
     ensures { reply_number result
-        ≡ lowest (lent_refusals «record» cells scales ++ head_refusals «record».shape layer (length_of «record» layer) head given m) }
+        ≡ lowest
+        (lent_refusals «record».now cells scales
+        ++ head_refusals «record».now.shape layer (length_of «record».now layer) head given m) }
 {
     let shape = record.shape;
-    let there = refuse(
-        !(m <= length_of(record, layer) as usize),
-        Reply::Position,
-        Reply::Done,
-    );
-    let size = refuse(!(given == shape.head_size as usize), Reply::Size, there);
-    let format = refuse(!has_scores(shape.format), Reply::Format, size);
-    let block = refuse(!(head < shape.heads), Reply::Head, format);
-    first_of(
-        store_reply(record, cells, scales),
-        refuse(!(layer < shape.layers), Reply::Layer, block),
-    )
+    record.store_reply(cells, scales)?;
+    require(layer < shape.layers, Refusal::Layer)?;
+    require(head < shape.heads, Refusal::Head)?;
+    require(has_scores(shape.format), Refusal::Format)?;
+    require(given == shape.head_size as usize, Refusal::Size)?;
+    require(m <= record.length_of(layer) as usize, Refusal::Position)
 }
