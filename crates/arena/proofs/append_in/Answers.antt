@@ -9,6 +9,6 @@ pub returns : goal.returns
 unfolding append_in_of
 returns c =
     let a = c.args in
-    given_back a.«record».shape (buffers a.cells.now a.scales.now) c.need_of-need.ensures c.smaller-c.ensures.value c.smaller-s.ensures.value
-    (λ b. append_of a.«record» b a.layer a.keys.now a.values.now)
+    given_back a.«record».now.shape (buffers a.cells.now a.scales.now) c.need_of-need.ensures c.min-c.ensures c.min-s.ensures
+    (λ b. append_of a.«record».now b a.layer a.keys.now a.values.now)
     c.append.ensures
