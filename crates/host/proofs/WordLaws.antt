@@ -1,23 +1,26 @@
 -- The record and its 134 words say the same, both ways, so that a statement on the record fixes each word.
 -- Each holds since the words are six fields and then the lengths, as they stand in the record.
 use mathlib.Core.Path.{◌≡◌, refl, sym, ap, ◌∙◌}
-use mathlib.Core.Bool.{true, false}
+use mathlib.Core.Bool.{Bool, true, false, cond, not}
 use mathlib.Core.List.{List, [], ◌∷◌, ◌++◌}
 use Prim.Native.Nat.{ℕ, suc, ◌+◌, ◌<◌}
 use native.Mathlib.Omega.{arith}
-use lib.ListN.{length, get_or, set, drop, replicate}
+use lib.Dec.{eqb}
+use lib.ListN.{length}
 use lib.Seq.{drop-cons}
-use Rattle.lists.specs.Chunks.{tab}
-use Rattle.lists.proofs.Tab.{tab-set, tab_of, tab-done}
-use Rattle.replies.specs.Outcome.{Outcome, outcome, lowest}
-use Rattle.shapes.specs.Shape.{head_size_of, within, need_of}
+use Rattle.std.specs.Prelude.{Result, Ok, Err}
+use Rattle.std.specs.Result.{result_unwrap_or}
+use Rattle.replies.specs.declared.Refusal.{Refusal}
+use Rattle.replies.specs.Reply.{reply_number}
+use Rattle.replies.specs.Outcome.{◌when◌, Outcome, outcome, lowest}
+use Rattle.shapes.specs.Shape.{within, need_of, cell_total, scale_total}
 use Rattle.shapes.specs.declared.Need.{Need}
 use Rattle.shapes.specs.declared.Shape.{Shape}
-use Rattle.shapes.specs.Buffers.{buffers}
-use Rattle.store.specs.Record.{seq_len_of}
-use Rattle.store.specs.Calls.{Store, store}
+use Rattle.shapes.specs.Buffers.{Buffers, buffers}
+use Rattle.store.specs.Record.{new_record_of}
+use Rattle.store.specs.Calls.{Store, store, no_shape, opened, counted}
 use Rattle.store.specs.declared.Record.{Record}
-use Rattle.host.specs.Words.{record_from, record_words, need_replied, seen, replied}
+use Rattle.host.specs.Words.{record_from, record_words, need, need_replied, seen, replied}
 
 -- the words of a record, as a record
 pub record-words : (r : Record) → record_from (record_words r) ≡ r
@@ -47,29 +50,22 @@ pub as_seen : {n m : ℕ} {w w' cells scales : List ℕ} {o : Outcome Store} →
     → seen n w cells scales ≡ o
 as_seen {cells = cells} {scales = scales} p q e = as_told p (ap (λ (l : List ℕ). store (record_from l) (buffers cells scales)) q) e
 
--- what a shape inside the limits is replied, and one outside them
-pub need_inside : (s : Shape) {n : ℕ} {x : Need} → within s ≡ true → n ≡ 0 → x ≡ need_of s → replied n x ≡ need_replied s
+-- what a shape is replied of its need: nothing outside the limits
+pub need_told : (s : Shape) {n : ℕ} {x : Need} → n ≡ lowest ((1 when not (within s)) ∷ []) → x ≡ need_of s → replied n x ≡ need_replied s
 unfolding need_replied outcome lowest need_of
-need_inside s h e q = rw (e, q, h)
+need_told s e q = rw (e, q, either (within s))
+  where
+    either : (t : Bool)
+        → ◌≡◌ {A = Outcome Need} (record { reply = cond (not t) 1 0; result = record { cells = cond t (cell_total s) 0; scales = cond t (scale_total s) 0 } })
+        (record { reply = cond (not t) 1 0; result = cond (eqb (cond (not t) 1 0) 0) (need (cell_total s) (scale_total s)) (need 0 0) })
+    either true = refl
+    either false = refl
 
-pub need_outside : (s : Shape) {n : ℕ} {x : Need} → within s ≡ false → n ≡ 1 → x ≡ need_of s → replied n x ≡ need_replied s
-unfolding need_replied outcome lowest need_of
-need_outside s h e q = rw (e, q, h)
+-- what is opened and counted, as it is told
+pub opened_told : (r : Result Record Refusal) (b : Buffers) {t : Record} → t ≡ result_unwrap_or r (new_record_of no_shape) → replied (reply_number r) (store t b) ≡ opened r b
+opened_told (Ok t) b e = rw e
+opened_told (Err x) b e = rw e
 
--- the loops: i values copied into 128 zeros
-abbrev pub copied : ℕ → (ℕ → ℕ) → List ℕ
-copied i f = tab i f ++ drop i (replicate 128 0)
-
-pub copied_turn : (i : ℕ) (f : ℕ → ℕ) {l : List ℕ} {v : ℕ} → i < 128 → l ≡ copied i f → v ≡ f i → set l i v ≡ copied (i + 1) f
-copied_turn i f h o e = tab-set i f (replicate 128 0) h o e
-
-pub copied_all : (f : ℕ → ℕ) (l : List ℕ) {i : ℕ} {x : List ℕ} → x ≡ copied i f → i ≡ 128 → length l ≡ 128
-    → ((j : ℕ) → j < 128 → get_or l j 0 ≡ f j) → x ≡ l
-copied_all f l o e h v = tab-done 128 f (replicate 128 0) o e refl ∙ sym (tab_of 128 f l 0 h v)
-
--- the six words before the lengths, and a store past them
-abbrev pub front : Record → List ℕ
-front r = r.shape.format ∷ r.shape.layers ∷ r.shape.heads ∷ head_size_of r.shape ∷ r.shape.capacity ∷ seq_len_of r ∷ []
-
-pub set_past : (r : Record) (i v : ℕ) (l : List ℕ) → set (front r ++ l) (i + 6) v ≡ front r ++ set l i v
-set_past r i v l = let e : i + 6 ≡ suc (suc (suc (suc (suc (suc i))))) = omega arith in rw e
+pub counted_told : (r : Result ℕ Refusal) {n : ℕ} → n ≡ result_unwrap_or r 0 → replied (reply_number r) n ≡ counted r
+counted_told (Ok n) e = rw e
+counted_told (Err x) e = rw e

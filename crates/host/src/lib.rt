@@ -15,8 +15,9 @@ ghost use Rattle.host.specs.Words.{record_from, shape_of, need, need_replied, se
 
 use numbers::{codes, scales, words};
 use records::{record_of, words_of};
-use replies::{Reply, number};
+use replies::{Refusal, number, require};
 use shapes::{Shape, is_within, need_of};
+use store::Record;
 
 // The scale of an INT8 head.
 pub fn kv_int8_scale(run: &[u32]) -> f32
@@ -58,7 +59,7 @@ pub fn kv_pack_i4_group(src: &[u32], scale: f32, dst: &mut [u8]) -> u32
     ensures reply { result ≡ group_reply src.now dst.old }
     ensures bytes { dst.new ≡ pack_into src.now scale dst.old }
 {
-    replies::number(groups::pack_i4_group(src, scale, dst))
+    number(groups::pack_i4_group(src, scale, dst))
 }
 
 // Reads 32 numbers out of the first 16 bytes, or answers 7.
@@ -66,7 +67,7 @@ pub fn kv_unpack_i4_group(packed: &[u8], scale: f32, dst: &mut [u32]) -> u32
     ensures reply { result ≡ group_reply dst.old packed.now }
     ensures words { dst.new ≡ unpack_into packed.now scale dst.old }
 {
-    replies::number(groups::unpack_i4_group(packed, scale, dst))
+    number(groups::unpack_i4_group(packed, scale, dst))
 }
 
 // The BF16 pattern of a word.
@@ -106,10 +107,7 @@ pub fn kv_need(
     let need = need_of(shape);
     *cells = need.cells;
     *scales = need.scales;
-    if !is_within(shape) {
-        return number(Reply::Shape);
-    }
-    number(Reply::Done)
+    number(require(is_within(shape), Refusal::Shape))
 }
 
 // Makes an empty store in buffers of exactly the shape's need.
@@ -133,10 +131,9 @@ pub fn kv_open(
         head_size,
         capacity,
     };
-    let answer = store::open(shape, cells, scales);
-    *rec = words_of(answer.after);
-    let reply = answer.reply;
-    number(reply)
+    let opened = Record::open(shape, cells, scales);
+    *rec = words_of(&opened.unwrap_or(Record::not_open()));
+    number(opened)
 }
 
 // Appends keys and values of n positions to a layer.
@@ -151,9 +148,9 @@ pub fn kv_append(
     ensures { seen result rec.new cells.new scales.new
         ≡ append_of (record_from rec.old) (buffers cells.old scales.old) layer keys.now values.now }
 {
-    let answer = store::append(record_of(*rec), cells, scales, layer, keys, values);
-    *rec = words_of(answer.after);
-    let reply = answer.reply;
+    let mut record = record_of(rec);
+    let reply = record.append(cells, scales, layer, keys, values);
+    *rec = words_of(&record);
     number(reply)
 }
 
@@ -168,9 +165,9 @@ pub fn kv_truncate(
     ensures { seen result rec.new cells.new scales.new
         ≡ truncate_of (record_from rec.old) (buffers cells.old scales.old) layer t }
 {
-    let answer = store::truncate_to(record_of(*rec), cells, scales, layer, t);
-    *rec = words_of(answer.after);
-    let reply = answer.reply;
+    let mut record = record_of(rec);
+    let reply = record.truncate_to(cells, scales, layer, t);
+    *rec = words_of(&record);
     number(reply)
 }
 
@@ -178,9 +175,9 @@ pub fn kv_truncate(
 pub fn kv_advance(rec: &mut [u32; 134], count: u32) -> u32
     ensures { replied result (record_from rec.new) ≡ advance_of (record_from rec.old) count }
 {
-    let answer = store::advance_seq_len(record_of(*rec), count);
-    *rec = words_of(answer.after);
-    let reply = answer.reply;
+    let mut record = record_of(rec);
+    let reply = record.advance_seq_len(count);
+    *rec = words_of(&record);
     number(reply)
 }
 
@@ -188,20 +185,18 @@ pub fn kv_advance(rec: &mut [u32; 134], count: u32) -> u32
 pub fn kv_cached_len(rec: &[u32; 134], layer: u32, count: &mut u64) -> u32
     ensures { replied result count.new ≡ cached_len_of (record_from rec.now) layer }
 {
-    let answer = store::cached_len(record_of(*rec), layer);
-    *count = answer.count;
-    let reply = answer.reply;
-    number(reply)
+    let counted = record_of(rec).cached_len(layer);
+    *count = counted.unwrap_or(0);
+    number(counted)
 }
 
 // The bytes of all rows, in `count`.
 pub fn kv_memory_bytes(rec: &[u32; 134], count: &mut u64) -> u32
     ensures { replied result count.new ≡ memory_bytes_of (record_from rec.now) }
 {
-    let answer = store::memory_bytes(record_of(*rec));
-    *count = answer.count;
-    let reply = answer.reply;
-    number(reply)
+    let counted = record_of(rec).memory_bytes();
+    *count = counted.unwrap_or(0);
+    number(counted)
 }
 
 // Reads one position of a side and head into `out`.
@@ -218,16 +213,8 @@ pub fn kv_read_row(
     ensures { replied result out.new
         ≡ read_of (record_from rec.now) (buffers cells.now scales.now) layer side head position out.old }
 {
-    number(store::read_row(
-        record_of(*rec),
-        cells,
-        scales,
-        layer,
-        side,
-        head,
-        position,
-        out,
-    ))
+    let record = record_of(rec);
+    number(record.read_row(cells, scales, layer, side, head, position, out))
 }
 
 // Scores as many positions of a head's keys as `out` has places, under a query and a scale.
@@ -245,7 +232,7 @@ pub fn kv_scores(
         ≡ head_scores_of (record_from rec.now) (buffers cells.now scales.now) layer head query.now scale out.old }
 {
     number(heads::scores(
-        record_of(*rec),
+        &record_of(rec),
         cells,
         scales,
         layer,
@@ -269,5 +256,5 @@ pub fn kv_sums(
     ensures { replied result out.new
         ≡ head_sums_of (record_from rec.now) (buffers cells.now scales.now) layer head weights.now out.old }
 {
-    number(heads::sums(record_of(*rec), cells, scales, layer, head, weights, out))
+    number(heads::sums(&record_of(rec), cells, scales, layer, head, weights, out))
 }

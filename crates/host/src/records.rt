@@ -5,42 +5,34 @@ ghost use Rattle.host.specs.Words.{record_from, record_words};
 use shapes::Shape;
 use store::Record;
 
-pub(crate) fn record_of(w: [u32; 134]) -> Record
-    ensures { result ≡ record_from w }
+pub(crate) fn record_of(words: &[u32; 134]) -> Record
+    ensures { result ≡ record_from words.now }
 {
     let mut lens = [0; 128];
-    let mut i = 0;
-    while i < 128 {
-        lens[i] = w[i + 6];
-        i += 1;
-    }
+    lens.copy_from_slice(&words[6..]);
     Record {
         shape: Shape {
-            format: w[0],
-            layers: w[1],
-            heads: w[2],
-            head_size: w[3],
-            capacity: w[4],
+            format: words[0],
+            layers: words[1],
+            heads: words[2],
+            head_size: words[3],
+            capacity: words[4],
         },
         lens,
-        seq_len: w[5],
+        seq_len: words[5],
     }
 }
 
-pub(crate) fn words_of(record: Record) -> [u32; 134]
-    ensures { result ≡ record_words «record» }
+pub(crate) fn words_of(record: &Record) -> [u32; 134]
+    ensures { result ≡ record_words «record».now }
 {
-    let mut w = [0; 134];
-    w[0] = record.shape.format;
-    w[1] = record.shape.layers;
-    w[2] = record.shape.heads;
-    w[3] = record.shape.head_size;
-    w[4] = record.shape.capacity;
-    w[5] = record.seq_len;
-    let mut i = 0;
-    while i < 128 {
-        w[i + 6] = record.lens[i];
-        i += 1;
-    }
-    w
+    let mut words = [0; 134];
+    words[0] = record.shape.format;
+    words[1] = record.shape.layers;
+    words[2] = record.shape.heads;
+    words[3] = record.shape.head_size;
+    words[4] = record.shape.capacity;
+    words[5] = record.seq_len;
+    words[6..].copy_from_slice(&record.lens);
+    words
 }

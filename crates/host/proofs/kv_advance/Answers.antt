@@ -7,4 +7,4 @@ use Rattle.host.proofs.kv_advance.Goals as goal
 pub returns : goal.returns
 returns c =
     as_told c.number.ensures (ap record_from c.words_of.ensures)
-    (rw c.record_of.ensures at c.advance_seq_len-answer.ensures)
+    (rw c.record_of-record.ensures at c.advance_seq_len-reply.ensures)

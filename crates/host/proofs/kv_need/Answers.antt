@@ -1,20 +1,9 @@
 -- Outside the limits there is no need and the reply is 1; inside, both totals.
-use Rattle.replies.proofs.Flags.{passed, failed}
-use Rattle.host.proofs.WordLaws.{need_inside, need_outside}
+use mathlib.Core.Path.{◌∙◌}
+use Rattle.replies.specs.declared.Refusal.TheVariants.{Shape}
+use Rattle.replies.proofs.Tested.{required}
+use Rattle.host.proofs.WordLaws.{need_told}
 use Rattle.host.proofs.kv_need.Goals as goal
 
-pub returns-then-not-is_within : goal.returns-then-not-is_within
-returns-then-not-is_within c =
-    need_outside
-    _
-    (failed c.is_within.ensures c.if-not-is_within.true)
-    c.number.ensures
-    c.need_of-need.ensures
-
 pub returns : goal.returns
-returns c =
-    need_inside
-    _
-    (passed c.is_within.ensures c.if-not-is_within.false)
-    c.number-2.ensures
-    c.need_of-need.ensures
+returns c = need_told _ (c.number.ensures ∙ required Shape _ c.require.ensures c.is_within.ensures) c.need_of-need.ensures

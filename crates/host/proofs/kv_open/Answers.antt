@@ -1,8 +1,11 @@
--- The store's promise, with its reply as a number and its record as words.
-use Rattle.host.proofs.WordLaws.{as_seen}
+-- The store's promise, with its reply as a number and its record as words; refused, those of no store.
+use mathlib.Core.Path.{ap, ◌∙◌}
+use Rattle.shapes.specs.Buffers.{buffers}
+use Rattle.host.specs.Words.{record_from}
+use Rattle.host.proofs.WordLaws.{as_told, as_seen, opened_told}
 use Rattle.host.proofs.kv_open.Goals as goal
 
 pub returns : goal.returns
 returns c =
     as_seen c.number.ensures c.words_of.ensures
-    c.open-answer.ensures
+    (opened_told c.open-opened.result _ (rw c.not_open.ensures at c.unwrap_or.ensures) ∙ c.open-opened.ensures)

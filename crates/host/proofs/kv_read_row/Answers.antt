@@ -6,4 +6,4 @@ use Rattle.host.proofs.kv_read_row.Goals as goal
 pub returns : goal.returns
 returns c =
     as_told c.number.ensures refl
-    (rw c.record_of.ensures at c.read_row.ensures)
+    (rw c.record_of-record.ensures at c.read_row.ensures)

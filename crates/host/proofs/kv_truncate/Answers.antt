@@ -5,4 +5,4 @@ use Rattle.host.proofs.kv_truncate.Goals as goal
 pub returns : goal.returns
 returns c =
     as_seen c.number.ensures c.words_of.ensures
-    (rw c.record_of.ensures at c.truncate_to-answer.ensures)
+    (rw c.record_of-record.ensures at c.truncate_to-reply.ensures)
