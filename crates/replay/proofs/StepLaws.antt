@@ -7,8 +7,7 @@ use native.Mathlib.Omega.{arith}
 use lib.ListN.{length, take, drop}
 use lib.Seq.{take_at, length-take-le}
 use Rattle.replies.specs.Outcome.{Outcome}
-use Rattle.store.specs.declared.Changed.{Changed}
-use Rattle.store.specs.Calls.{Store, changed_store}
+use Rattle.store.specs.Calls.{Store}
 use Rattle.callfile.specs.declared.Entry.{Entry}
 use Rattle.callfile.specs.Format.{words, entry_at_of, size_of, place_after, words_read}
 use Rattle.callfile.proofs.FormatLaws.{words-length, words-read}
@@ -16,34 +15,28 @@ use Rattle.arena.specs.Calls.{append_in_of}
 use Rattle.printing.specs.Place.{over}
 use Rattle.printing.specs.Text.{Laid, laid_at}
 use Rattle.printing.proofs.LaidLaws.{laid_there}
-use Rattle.replay.specs.declared.Told.{Told}
-use Rattle.replay.specs.Step.{Printed, Effect, answers, effect_of, walk, Step, step_of, effect, told}
+use Rattle.replay.specs.Step.{Printed, Effect, answers, effect_of, walk, Step, step_of}
 use Rattle.replay.specs.Transcript.{text_of, Play}
 use Rattle.replay.specs.Turn.{turned}
 
 -- a side of which the first n words, y, were read: its numbers
 module _ (file : List ℕ) (at n : ℕ) (side y : List ℕ) (sized : 512 ≡ length side) (b : n ≤ 512) (f : at + 4 * n ≤ length file)
-    (e : y ≡ words_read file at (take (n - 0) side)) where
+    (e : y ≡ words_read file at (take n side)) where
   first : length (take n side) ≡ n
   first = length-take-le n side (omega arith)
 
   read : y ≡ words n file at
   read =
-      let k : n - 0 ≡ n = omega arith in
       let g : at + 4 * length (take n side) ≤ length file = rw first f in
-      e ∙ rw (k, words-read file at (take n side) g, first)
+      e ∙ rw (words-read file at (take n side) g, first)
 
-  pub side_read : take n (y ++ drop (n - 0) side) ≡ words n file at
+  pub side_read : take n (y ++ drop n side) ≡ words n file at
   side_read = rw read (take_at (words n file at) _ n (words-length n file at))
 
 -- an append of what is lent of both sides
 pub sides_lent : (n l : ℕ) (keys values : List ℕ) (cache : Store) {k v : List ℕ} {o : Outcome Store} → take n keys ≡ k → take n values ≡ v
-    → o ≡ append_in_of l (take (n - 0) keys) (take (n - 0) values) cache → o ≡ append_in_of l k v cache
-sides_lent n l keys values cache p q e = let z : n - 0 ≡ n = omega arith in rw (← p, ← q) (rw z at e)
-
--- a call's answer, told
-pub answered_by : {a : Told} {r : Changed} {cells scales : List ℕ} {o : Outcome Store} → a ≡ told r → changed_store r cells scales ≡ o → effect a cells scales ≡ answers o
-answered_by p q = rw p (ap answers q)
+    → o ≡ append_in_of l (take n keys) (take n values) cache → o ≡ append_in_of l k v cache
+sides_lent n l keys values cache p q e = rw (← p, ← q) e
 
 -- a step, by what stands at its place and what that does
 pub step_done : (file : List ℕ) (at : ℕ) (cache : Store) {e : Entry} {line : Printed} {after : Store} {next : ℕ} → e ≡ entry_at_of file at

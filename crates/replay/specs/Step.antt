@@ -5,7 +5,6 @@ use Rattle.replies.specs.Outcome.{Outcome}
 use Rattle.shapes.specs.Buffers.{buffers}
 use Rattle.store.specs.Record.{seq_len_of}
 use Rattle.store.specs.Calls.{Store, store, advance_of, memory_bytes_of}
-use Rattle.store.specs.declared.Changed.{Changed}
 use Rattle.store.specs.declared.Record.{Record}
 use Rattle.callfile.specs.Format.{entry_at_of, place_after, keys_at, values_at}
 use Rattle.callfile.specs.declared.Entry.{Entry}
@@ -13,7 +12,6 @@ use Rattle.callfile.specs.declared.Entry.TheVariants.{Open, Append, Truncate, Ad
 use Rattle.arena.specs.Calls.{open_in, append_in_of, truncate_in_of}
 use Rattle.replay.specs.declared.Line.{Line}
 use Rattle.replay.specs.declared.Line.TheVariants.{Answer, Counts, Stop, Nothing}
-use Rattle.replay.specs.declared.Told.{Told}
 
 -- a line of output: ok for 0 and no N for any other N; seq, bytes and a length per layer; bad at a place; none at the end
 pub data Printed : Type 0 where
@@ -76,9 +74,6 @@ printed (Counts bytes) r = reported r bytes
 printed (Stop at) r = bad_at at
 printed Nothing r = nothing
 
--- what an answer and the lent memory say together
-abbrev pub effect : Told → List ℕ → List ℕ → Effect
-effect a cells scales = record { line = printed a.line a.after; cache = store a.after (buffers cells scales) }
-
-abbrev pub told : Changed → Told
-told a = record { line = Answer a.reply; after = a.after }
+-- what a line, its record and the lent memory say together
+abbrev pub effect : Line → Record → List ℕ → List ℕ → Effect
+effect line r cells scales = record { line = printed line r; cache = store r (buffers cells scales) }

@@ -5,40 +5,34 @@ mod lines;
 mod walk;
 
 ghost use Rattle.std.specs.Prelude.{◌≡◌, ◌+◌, ◌*◌, ◌≤◌, length, take};
+ghost use Rattle.replies.specs.Outcome.{answered};
 ghost use Rattle.shapes.specs.Buffers.{buffers};
-ghost use Rattle.store.specs.Calls.{store, changed_store};
+ghost use Rattle.store.specs.Calls.{store};
 ghost use Rattle.callfile.specs.Format.{words, entry_at_of, keys_at, values_at};
 ghost use Rattle.arena.specs.Calls.{append_in_of};
 ghost use Rattle.printing.specs.Text.{laid, laid_at};
-ghost use Rattle.replay.specs.Step.{printed, report_of, effect_of, effect, told};
+ghost use Rattle.replay.specs.Step.{printed, report_of, effect_of, effect};
 ghost use Rattle.replay.specs.Transcript.{text_of, at_hand, transcript, play_of, play_in_of, played};
 
 use arena::{append_in, open_in, truncate_in};
 use callfile::{Entry, read_words};
 use lines::line_text;
 use printing::bad_text;
-use replies::{Reply, number};
-use store::{Changed, Record, advance_seq_len, memory_bytes, not_open};
+use replies::Refusal;
+use store::Record;
 use walk::walk_file;
 
 // A line of output.
 #[derive(Clone, Copy)]
 pub(crate) enum Line {
     // `ok`, or `no` and the reply's number.
-    Answer { reply: Reply },
+    Answer { reply: Result<(), Refusal> },
     // The record's sequence number, these bytes, and the record's lengths.
     Counts { bytes: u64 },
     // `bad at` this place.
     Stop { at: usize },
     // None: the file has ended.
     Nothing,
-}
-
-// A line, and the record afterwards.
-#[derive(Clone, Copy)]
-pub(crate) struct Told {
-    pub line: Line,
-    pub after: Record,
 }
 
 // How far a file is played: its place, the bytes printed so far, and the record of the last store.
@@ -54,8 +48,8 @@ pub fn play(file: &[u8], out: &mut [u8; 4_194_304]) -> Played
     ensures text { record { count = result.count; out = out.new } ≡ laid (transcript file.now) out.old }
     ensures last { (result.place ≡ (play_of file.now at_hand).last.place) × (result.after ≡ (play_of file.now at_hand).last.cache.rec) }
 {
-    let mut cells = no_cells();
-    let mut scales = no_scales();
+    let mut cells = [0u8; 32_768];
+    let mut scales = [0u32; 2_048];
     play_in(file, &mut cells, &mut scales, out)
 }
 
@@ -75,57 +69,41 @@ pub fn play_in(
         return Played {
             place: 16_384,
             count,
-            after: not_open(),
+            after: Record::not_open(),
         };
     }
     walk_file(file, cells, scales, out)
 }
 
-// The cell bytes and the scale words at hand.
-fn no_cells() -> [u8; 32_768]
-    ensures { result ≡ at_hand.cells }
-{
-    [0; 32_768]
-}
-
-fn no_scales() -> [u32; 2_048]
-    ensures { result ≡ at_hand.scales }
-{
-    [0; 2_048]
-}
-
-// Does what the entry at a place says.
+// Does what the entry at a place says, and answers its line.
 pub(crate) fn tell(
     file: &[u8],
     at: usize,
     entry: Entry,
-    record: Record,
+    record: &mut Record,
     cells: &mut [u8],
     scales: &mut [u32],
-) -> Told
+) -> Line
     requires { «entry» ≡ entry_at_of file.now at }
-    ensures { effect result cells.new scales.new
-        ≡ effect_of file.now at «entry» (store «record» (buffers cells.old scales.old)) }
+    ensures { effect result «record».new cells.new scales.new
+        ≡ effect_of file.now at «entry» (store «record».old (buffers cells.old scales.old)) }
 {
     match entry {
-        Entry::Open { shape } => answer(open_in(record, cells, scales, shape)),
-        Entry::Append { layer, n } => answer(append_from(
-            file, at, n, record, cells, scales, layer,
-        )),
-        Entry::Truncate { layer, t } => answer(truncate_in(record, cells, scales, layer, t)),
-        Entry::Advance { count } => answer(advance_seq_len(record, count)),
-        Entry::Report => Told {
-            line: report(record),
-            after: record,
+        Entry::Open { shape } => Line::Answer {
+            reply: open_in(record, cells, scales, shape),
         },
-        Entry::End => Told {
-            line: Line::Nothing,
-            after: record,
+        Entry::Append { layer, n } => Line::Answer {
+            reply: append_from(file, at, n, record, cells, scales, layer),
         },
-        Entry::Bad => Told {
-            line: Line::Stop { at },
-            after: record,
+        Entry::Truncate { layer, t } => Line::Answer {
+            reply: truncate_in(record, cells, scales, layer, t),
         },
+        Entry::Advance { count } => Line::Answer {
+            reply: record.advance_seq_len(count),
+        },
+        Entry::Report => report(record),
+        Entry::End => Line::Nothing,
+        Entry::Bad => Line::Stop { at },
     }
 }
 
@@ -134,20 +112,20 @@ fn append_from(
     file: &[u8],
     at: usize,
     n: u32,
-    record: Record,
+    record: &mut Record,
     cells: &mut [u8],
     scales: &mut [u32],
     layer: u32,
-) -> Changed
+) -> Result<(), Refusal>
     requires { (at + 7 + 8 * n ≤ length file.now) × (n ≤ 512) }
-    ensures { changed_store result cells.new scales.new
+    ensures { answered result (store «record».new (buffers cells.new scales.new))
         ≡ append_in_of layer (keys_at n file.now at) (values_at n file.now at)
-        (store «record» (buffers cells.old scales.old)) }
+        (store «record».old (buffers cells.old scales.old)) }
 {
     let k = n as usize;
     let keys = side_at(file, at + 7, k);
     let values = side_at(file, at + 7 + 4 * k, k);
-    append_in(record, cells, scales, layer, &keys[0..k], &values[0..k])
+    append_in(record, cells, scales, layer, &keys[..k], &values[..k])
 }
 
 // One side of an append, whose `n` numbers begin at a place.
@@ -156,45 +134,26 @@ fn side_at(file: &[u8], at: usize, n: usize) -> [u32; 512]
     ensures value { 512 ≡ length result }
     ensures result_value { take n result ≡ words n file.now at }
 {
-    let mut side = no_numbers();
-    read_words(file, at, &mut side[0..n]);
+    let mut side = [0; 512];
+    read_words(file, at, &mut side[..n]);
     side
 }
 
-fn no_numbers() -> [u32; 512]
-    ensures { 512 ≡ length result }
-{
-    [0; 512]
-}
-
-fn answer(changed: Changed) -> Told
-    ensures { result ≡ told changed }
-{
-    let reply = changed.reply;
-    let after = changed.after;
-    Told {
-        line: Line::Answer { reply },
-        after,
-    }
-}
-
 // Lays a report of a store, or why there is none, at an offset, and answers the offset after it.
-pub fn report_line(record: Record, out: &mut [u8], at: usize) -> usize
-    ensures { record { count = result; out = out.new } ≡ laid_at at (text_of (report_of «record»)) out.old }
+pub fn report_line(record: &Record, out: &mut [u8], at: usize) -> usize
+    ensures { record { count = result; out = out.new } ≡ laid_at at (text_of (report_of «record».now)) out.old }
 {
     line_text(report(record), record, out, at)
 }
 
 // A report of a store, or why there is none.
-fn report(record: Record) -> Line
-    ensures { printed result «record» ≡ report_of «record» }
+fn report(record: &Record) -> Line
+    ensures { printed result «record».now ≡ report_of «record».now }
 {
-    let counted = memory_bytes(record);
-    let reply = counted.reply;
-    if number(reply) != 0 {
-        return Line::Answer { reply };
-    }
-    Line::Counts {
-        bytes: counted.count,
+    match record.memory_bytes() {
+        Ok(bytes) => Line::Counts { bytes },
+        Err(refusal) => Line::Answer {
+            reply: Err(refusal),
+        },
     }
 }

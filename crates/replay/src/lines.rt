@@ -10,8 +10,8 @@ use replies::number;
 use store::Record;
 
 // Lays a line at an offset and answers the offset after it; at the end of a file there is none.
-pub(crate) fn line_text(line: Line, record: Record, out: &mut [u8], at: usize) -> usize
-    ensures { record { count = result; out = out.new } ≡ laid_at at (text_of (printed line «record»)) out.old }
+pub(crate) fn line_text(line: Line, record: &Record, out: &mut [u8], at: usize) -> usize
+    ensures { record { count = result; out = out.new } ≡ laid_at at (text_of (printed line «record».now)) out.old }
 {
     match line {
         Line::Answer { reply } => answer_text(number(reply), out, at),
@@ -21,9 +21,15 @@ pub(crate) fn line_text(line: Line, record: Record, out: &mut [u8], at: usize) -
     }
 }
 
-fn counts_text(record: Record, bytes: u64, out: &mut [u8], at: usize) -> usize
-    ensures { record { count = result; out = out.new } ≡ laid_at at (text_of (reported «record» bytes)) out.old }
+fn counts_text(record: &Record, bytes: u64, out: &mut [u8], at: usize) -> usize
+    ensures { record { count = result; out = out.new } ≡ laid_at at (text_of (reported «record».now bytes)) out.old }
 {
-    let lens = record.lens;
-    report_text(record.seq_len, bytes, &lens, record.shape.layers, out, at)
+    report_text(
+        record.seq_len,
+        bytes,
+        &record.lens,
+        record.shape.layers,
+        out,
+        at,
+    )
 }

@@ -11,7 +11,7 @@ use super::lines::line_text;
 use super::{Played, tell};
 use callfile::reader::{here, moved, new};
 use callfile::{Entry, size_of};
-use store::not_open;
+use store::Record;
 
 pub(crate) fn walk_file(file: &[u8], cells: &mut [u8], scales: &mut [u32], out: &mut [u8]) -> Played
     requires { (length file.now ≤ 16384) × (4194304 ≤ length out.old) }
@@ -35,7 +35,7 @@ fn nothing_played() -> Played
     Played {
         place: 0,
         count: 0,
-        after: not_open(),
+        after: Record::not_open(),
     }
 }
 
@@ -54,12 +54,11 @@ fn turn(
         ≡ turned file.now
         (played so_far cells.old scales.old out.old) }
 {
-    let told = tell(file, so_far.place, entry, so_far.after, cells, scales);
-    let line = told.line;
-    let after = told.after;
+    let mut after = so_far.after;
+    let line = tell(file, so_far.place, entry, &mut after, cells, scales);
     Played {
         place: so_far.place + size_of(entry),
-        count: line_text(line, after, out, so_far.count),
+        count: line_text(line, &after, out, so_far.count),
         after,
     }
 }

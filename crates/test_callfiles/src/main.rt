@@ -63,6 +63,6 @@ fn tell(rt: &impl Print, played: Played) -> io::Result<()> {
     let place = played.place;
     print!(rt; "replay {place} ")?;
     let mut out = [0u8; 2048];
-    let n = report_line(played.after, &mut out, 0);
+    let n = report_line(&played.after, &mut out, 0);
     rt.write_all(&out[..n])
 }

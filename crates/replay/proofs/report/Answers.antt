@@ -1,13 +1,13 @@
--- The byte count's reply tells which line it is.
-use mathlib.Core.Path.{sym, ◌∙◌}
-use borrow.Author.Tests.{eq-eqb, ne_eqb}
+-- The byte count, or its refusal, tells which line it is.
+use Rattle.replies.proofs.Tested.{not_done}
+use borrow.Author.Tests.{ne_eqb}
 use Rattle.replay.specs.Step.{report_of}
 use Rattle.replay.proofs.report.Goals as goal
 
-pub returns-then-number-ne0 : goal.returns-then-number-ne0
+pub returns-in-Ok : goal.returns-in-Ok
 unfolding report_of
-returns-then-number-ne0 c = rw (← c.memory_bytes-counted.ensures, ne_eqb _ 0 (λ z. c.if-number-ne0.true (c.number.ensures ∙ z)))
+returns-in-Ok c = rw (← c.in-Ok.ensures)
 
-pub returns : goal.returns
+pub returns-in-Err : goal.returns-in-Err
 unfolding report_of
-returns c = rw (← c.memory_bytes-counted.ensures, eq-eqb _ 0 (sym c.number.ensures ∙ c.if-number-ne0.false))
+returns-in-Err c = rw (← c.in-Err.ensures, ne_eqb _ 0 (not_done c.in-Err.refusal))

@@ -5,8 +5,7 @@ use Rattle.shapes.specs.Buffers.{buffers}
 use Rattle.store.specs.declared.Record.{Record}
 use Rattle.store.specs.Calls.{store}
 use Rattle.callfile.proofs.FormatLaws.{append_in_file}
-use Rattle.replay.specs.Step.{advance_in}
-use Rattle.replay.proofs.StepLaws.{answered_by}
+use Rattle.replay.specs.Step.{answers, advance_in}
 use Rattle.replay.proofs.tell.Goals as goal
 
 pub append_from-requires : goal.append_from-requires
@@ -16,5 +15,4 @@ pub returns-in-Advance : goal.returns-in-Advance
 unfolding advance_in
 returns-in-Advance c =
     rw c.in-Advance.is
-    (answered_by c.answer-in-Advance.ensures
-    (ap (λ (o : Outcome Record). record { reply = o.reply; result = store o.result (buffers c.args.cells.now c.args.scales.now) }) c.advance_seq_len.ensures))
+    (ap (λ (o : Outcome Record). answers (record { reply = o.reply; result = store o.result (buffers c.args.cells.now c.args.scales.now) })) c.advance_seq_len.ensures)

@@ -16,5 +16,5 @@ overflow_add-result c =
 pub returns : goal.returns
 returns c =
     let a = c.args in
-    turn_done a.file.now (played a.so_far a.cells.now a.scales.now a.out.now) c.requires.entry_value c.tell-told.ensures
+    turn_done a.file.now (played a.so_far a.cells.now a.scales.now a.out.now) c.requires.entry_value c.tell-line.ensures
     (ap (λ (n : ℕ). a.so_far.place + n) c.size_of.ensures) c.line_text.ensures c.requires.so_far_in_bounds
