@@ -25,7 +25,6 @@ loop-g-preserved c =
     let put = c.put_group.ensures in (
       chunk_turn (over (λ i w. packed-length _ _) c.requires.1) inv.0 (omega arith) refl (rw add-sub_cancel_left at put.cells),
       tab-set _ _ _ (omega arith) inv.1 (rw add-sub_cancel_left at put.scale),
-      search rules,
     )
 
 pub returns : goal.returns
