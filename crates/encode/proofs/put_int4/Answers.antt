@@ -3,7 +3,7 @@ use mathlib.Core.Path.{◌≡◌, refl}
 use Prim.Native.Nat.{◌/◌}
 use native.Mathlib.Nat.{add-sub_cancel_left}
 use native.Mathlib.Omega.{arith}
-use lib.ListN.{length, length-take, length-drop}
+use lib.ListN.{length}
 use borrow.Author.Rules.{rules}
 use Rattle.lists.specs.Chunks.{tab, each}
 use Rattle.lists.proofs.Loop.{chunk_turn, over, over_done}
@@ -15,9 +15,6 @@ use Rattle.encode.proofs.put_int4.Goals as goal
 pub loop-g-init : goal.loop-g-init
 unfolding tab each
 loop-g-init c = search rules
-
-pub put_group-requires : goal.put_group-requires
-put_group-requires c = (simp (length-take, length-drop) (omega arith), simp (length-take, length-drop) (omega arith))
 
 pub loop-g-preserved : goal.loop-g-preserved
 loop-g-preserved c =

@@ -1,7 +1,6 @@
 -- The cells passed hold the numbers passed, and what is left is as it was.
 use mathlib.Core.Path.{refl, ◌∙◌}
 use native.Mathlib.Omega.{arith}
-use lib.ListN.{length-take, length-drop}
 use borrow.Author.Rules.{rules}
 use Rattle.std.specs.Int.{w32}
 use Rattle.lists.specs.Chunks.{each}
@@ -13,9 +12,6 @@ use Rattle.encode.proofs.put_words.Goals as goal
 pub loop-d-init : goal.loop-d-init
 unfolding each
 loop-d-init c = search rules
-
-pub copy_from_slice-requires : goal.copy_from_slice-requires
-copy_from_slice-requires c = simp (length-take, length-drop, c.to_le_bytes.ensures) (omega arith)
 
 pub loop-d-preserved : goal.loop-d-preserved
 loop-d-preserved c =
