@@ -1,7 +1,7 @@
 // Decode: one head's numbers at one position, read from cells and scale words, in each format.
 #![tactic(auto)]
 
-ghost use Rattle.std.specs.Prelude.{◌≡◌, cond, [], ◌∷◌, ◌+◌, ◌*◌, eqb, length};
+ghost use Rattle.std.specs.Prelude.{◌≡◌, cond, ◌*◌, eqb, length};
 ghost use Rattle.lists.specs.Bytes.{from_little};
 ghost use Rattle.rows.specs.Row.{f32_numbers, bf16_numbers, int8_numbers, int4_numbers};
 ghost use Rattle.shapes.specs.Buffers.{buffers};
@@ -12,6 +12,7 @@ use groups::unpack_i4_group;
 use numbers::codes::dequantize_i8;
 use numbers::words::{bf16_to_f32, f32_to_word, word_to_f32};
 use rows::rows_fit;
+use shapes::Format;
 
 // Reads as many numbers as `out` has places, where what is lent is such a row, and answers whether it is.
 pub fn get_row(format: u32, cells: &[u8], scales: &[u32], out: &mut [u32]) -> bool
@@ -20,35 +21,33 @@ pub fn get_row(format: u32, cells: &[u8], scales: &[u32], out: &mut [u32]) -> bo
     if !rows_fit(format, out.len(), 1, cells.len(), scales.len()) {
         return false;
     }
-    match format {
-        0 => get_f32(cells, out),
-        1 => get_bf16(cells, out),
-        2 => get_int8(cells, scales, out),
-        3 => get_int4(cells, scales, out),
-        _ => {}
+    match Format::try_from(format) {
+        Ok(Format::F32) => get_f32(cells, out),
+        Ok(Format::Bf16) => get_bf16(cells, out),
+        Ok(Format::Int8) => get_int8(cells, scales, out),
+        Ok(Format::Int4) => get_int4(cells, scales, out),
+        Err(_) => {}
     }
     true
 }
 
-// The word of four bytes, least significant first, and 0 where there are not four. The back end loads bytes at once that are lent as a part.
+// The word of four bytes, least significant first, and 0 where there are not four.
 pub fn word_of(bytes: &[u8]) -> u32
     ensures { result ≡ cond (eqb (length bytes.now) 4) (from_little bytes.now) 0 }
 {
-    if bytes.len() != 4 {
-        return 0;
+    match bytes.as_array() {
+        Some(word) => u32::from_le_bytes(*word),
+        None => 0,
     }
-    word_of_bytes(bytes[0], bytes[1], bytes[2], bytes[3])
 }
 
 fn get_f32(cells: &[u8], out: &mut [u32])
     requires { length cells.now ≡ length out.old * 4 }
     ensures { out.new ≡ f32_numbers (length out.old) cells.now }
 {
-    let mut d = 0;
-    while d < out.len() {
-        let a = d * 4;
-        out[d] = word_of(&cells[a..a + 4]);
-        d += 1;
+    let (words, _) = cells.as_chunks();
+    for (d, word) in words.iter().enumerate() {
+        out[d] = u32::from_le_bytes(*word);
     }
 }
 
@@ -56,11 +55,9 @@ fn get_bf16(cells: &[u8], out: &mut [u32])
     requires { length cells.now ≡ length out.old * 2 }
     ensures { out.new ≡ bf16_numbers (length out.old) cells.now }
 {
-    let mut d = 0;
-    while d < out.len() {
-        let a = d * 2;
-        out[d] = bf16_to_f32(half_of(&cells[a..a + 2]));
-        d += 1;
+    let (halves, _) = cells.as_chunks();
+    for (d, half) in halves.iter().enumerate() {
+        out[d] = bf16_to_f32(u16::from_le_bytes(*half));
     }
 }
 
@@ -69,10 +66,8 @@ fn get_int8(cells: &[u8], scales: &[u32], out: &mut [u32])
     ensures { out.new ≡ int8_numbers (length out.old) cells.now scales.now }
 {
     let scale = word_to_f32(scales[0]);
-    let mut d = 0;
-    while d < out.len() {
-        out[d] = f32_to_word(dequantize_i8(cells[d], scale));
-        d += 1;
+    for (d, code) in cells.iter().enumerate() {
+        out[d] = f32_to_word(dequantize_i8(*code, scale));
     }
 }
 
@@ -80,34 +75,9 @@ fn get_int4(cells: &[u8], scales: &[u32], out: &mut [u32])
     requires { (length out.old ≡ length scales.now * 32) × (length cells.now ≡ length scales.now * 16) }
     ensures { out.new ≡ int4_numbers (length out.old) cells.now scales.now }
 {
-    let mut g = 0;
-    while g < scales.len() {
+    for (g, scale) in scales.iter().enumerate() {
         let a = g * 32;
         let c = g * 16;
-        let _ = unpack_i4_group(
-            &cells[c..c + 16],
-            word_to_f32(scales[g]),
-            &mut out[a..a + 32],
-        );
-        g += 1;
+        let _ = unpack_i4_group(&cells[c..c + 16], word_to_f32(*scale), &mut out[a..a + 32]);
     }
-}
-
-fn word_of_bytes(b0: u8, b1: u8, b2: u8, b3: u8) -> u32
-    ensures { result ≡ from_little (b0 ∷ b1 ∷ b2 ∷ b3 ∷ []) }
-{
-    b0 as u32 + 256 * b1 as u32 + 65_536 * b2 as u32 + 16_777_216 * b3 as u32
-}
-
-fn half_of(cells: &[u8]) -> u16
-    requires { length cells.now ≡ 2 }
-    ensures { result ≡ from_little cells.now }
-{
-    half_from(cells[0], cells[1])
-}
-
-fn half_from(low: u8, high: u8) -> u16
-    ensures { result ≡ low + 256 * high }
-{
-    low as u16 + 256 * high as u16
 }

@@ -1,13 +1,12 @@
 -- A group and the words of a run as a row has them, and what a write leaves of a row that fits.
 -- Each holds since what is lent is exactly as long as what is written.
-use mathlib.Core.Path.{◌≡◌, refl, ap}
+use mathlib.Core.Path.{◌≡◌, ap}
 use mathlib.Core.Bool.{Bool}
-use mathlib.Core.List.{List, [], ◌++◌, append-nil}
-use Prim.Native.Nat.{ℕ, ◌-◌, ◌≤◌}
+use mathlib.Core.List.{List, [], append-nil}
+use Prim.Native.Nat.{ℕ, ◌≤◌}
 use native.Mathlib.Omega.{arith}
 use lib.Ieee.{Float}
-use lib.ListN.{length, take, drop_of_length-le}
-use lib.Seq.{take_at}
+use lib.ListN.{length, drop_of_length-le}
 use Rattle.groups.specs.Group.{packed, holds, pack_into}
 use Rattle.rows.specs.Row.{row_cells, row_scales}
 use Rattle.shapes.specs.Buffers.{Buffers, buffers}
@@ -23,10 +22,6 @@ pack_all numbers bytes scale n b = let h : length bytes ≤ 16 = omega arith in 
 
 pub none_there : (l : List ℕ) → length l ≡ 0 → l ≡ []
 none_there l e = drop_of_length-le l {i = 0} (omega arith)
-
--- the first of an array's words, lent as `&words[0..n]`, are the run's n
-pub first_lent : (run y r : List ℕ) → y ≡ run → take (length run - 0) (y ++ r) ≡ run
-first_lent run y r e = let z : length run - 0 ≡ length run = omega arith in rw (e, z) (take_at run r _ refl)
 
 -- what the call leaves of a row that fits
 pub put_left : {format : ℕ} {done : Bool} (run cells scales : List ℕ) {x y : List ℕ} → RowFits format (length run) (length cells) (length scales)

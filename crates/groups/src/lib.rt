@@ -33,20 +33,19 @@ pub fn unpack_i4_group(packed: &[u8], scale: f32, dst: &mut [u32]) -> Result<(),
 fn has_group(numbers: usize, bytes: usize) -> bool
     ensures { result ≡ holds numbers bytes }
 {
-    (32 <= numbers) & (16 <= bytes)
+    32 <= numbers && 16 <= bytes
 }
 
 // The 16 bytes of a group.
+#[tactic(auto, using(numbers::proofs::CodeLaws::code4_nibble))]
 fn pack(src: &[u32], scale: f32, dst: &mut [u8])
     requires { (32 ≤ length src.now) × (16 ≤ length dst.old) }
     ensures { dst.new ≡ packed src.now scale ++ drop 16 dst.old }
 {
-    let mut i = 0;
-    while i < 16 {
+    for i in 0..16 {
         let low = quantize_i4(src[i], scale);
         let high = quantize_i4(src[i + 16], scale);
         dst[i] = low + 16 * high;
-        i += 1;
     }
 }
 
@@ -64,10 +63,8 @@ fn unpack_half(packed: &[u8], from: u32, scale: f32, dst: &mut [u32])
     requires { (16 ≤ length packed.now) × (length dst.old ≡ 16) × (from ≤ 4) }
     ensures { dst.new ≡ half from packed.now scale }
 {
-    let mut i = 0;
-    while i < 16 {
+    for (i, word) in dst.iter_mut().enumerate() {
         let code = (packed[i] >> from) % 16;
-        dst[i] = f32_to_word(dequantize_i4(code, scale));
-        i += 1;
+        *word = f32_to_word(dequantize_i4(code, scale));
     }
 }

@@ -1,26 +1,16 @@
 -- Which words and floats are a NaN, and how a word parts into its sign and its magnitude.
-use Rattle.std.proofs.Common.{◌≡◌, ℕ, zero, suc, ◌+◌, ◌/◌, ◌%◌, ◌<◌, ◌≤◌, Bool, true, false, cond, not, T, eqb, leb, sym, refl, ap, ◌∙◌, subst, mod-eq_of_lt, arith, ltb-false, le-ltb, lt-ltb}
+use Rattle.std.proofs.Common.{◌≡◌, ℕ, zero, suc, ◌+◌, ◌/◌, ◌%◌, ◌<◌, ◌≤◌, Bool, true, false, cond, not, T, eqb, leb, sym, refl, ap, ◌∙◌, mod-eq_of_lt, arith, ltb-false, le-ltb, lt-ltb}
 use borrow.Author.Tests.{lt-leb}
-use lib.Ieee.{Float, nan, inf, fin, binary32, ne, is_nan, nan_bits, odd, of_fields, of_bits, fits}
+use lib.Ieee.{Float, nan, inf, fin, binary32, is_nan, nan_bits, odd, of_fields, of_bits, fits}
 use lib.Ieee.Bits.{is_false, of_bits-to_bits, nan_bits_is, nan_bits_above}
-use lib.Ieee.Compare.{differs_from_itself}
 use Rattle.numbers.specs.Word.{float, word}
 
-is-nan : (x : Float) → is_nan x ≡ true → x ≡ nan
+-- only the NaN is one
+pub is-nan : (x : Float) → is_nan x ≡ true → x ≡ nan
 unfolding is_nan
 is-nan nan h = refl
 is-nan (inf s) h = cc
 is-nan (fin s m e) h = cc
-
--- only a NaN differs from itself
-pub differs : (x : Float) → ne x x ≡ true → x ≡ nan
-differs x h = differs_from_itself x (rw h tt)
-
-pub no_nan : (x : Float) → ne x x ≡ false → T (not (is_nan x))
-unfolding is_nan ne
-no_nan nan h = subst (λ (b : Bool). T b) h tt
-no_nan (inf s) h = tt
-no_nan (fin s m e) h = tt
 
 -- past the infinity's pattern, without its sign, a word is a NaN's, and only there
 pub above_infinity : (w : ℕ) → 2139095040 < w % 2147483648 → float w ≡ nan

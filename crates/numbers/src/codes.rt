@@ -21,7 +21,7 @@ fn nearest_whole(bits: u32, most: u16) -> u32
 {
     let x = smaller(f32::from_bits(bits), most as f32);
     // Beside 2^23 a float has no place for a fraction: the sum is rounded to a whole number, a half to the even one.
-    let n = f32::to_bits(x + 8_388_608.0) % 256;
+    let n = (x + 8_388_608.0).to_bits() % 256;
     if x == n as f32 + 0.5 { n + 1 } else { n }
 }
 
@@ -32,11 +32,11 @@ fn quantize(x: u32, scale: f32, low: u16, high: u16, zero: u32) -> u32
 {
     let q = word_to_f32(x) / scale;
     // A NaN is below nothing, so this is a number, and what it counts for a NaN is dropped at the end.
-    let bits = f32::to_bits(smaller(q, high as f32));
+    let bits = smaller(q, high as f32).to_bits();
     let positive = bits < 0x8000_0000;
     // The end for either sign: what is positive is at most `high` already.
     let n = nearest_whole(bits % 0x8000_0000, low);
-    let m = if q != q { 0 } else { n };
+    let m = if q.is_nan() { 0 } else { n };
     if positive { zero + m } else { zero - m }
 }
 
@@ -58,8 +58,7 @@ pub fn quantize_i4(x: u32, scale: f32) -> u8
 pub fn dequantize_i8(code: u8, scale: f32) -> f32
     ensures { result ≡ read8 code scale }
 {
-    let raised = (code as u16 + 128) % 256;
-    (raised as f32 - 128.0) * scale
+    code.cast_signed() as f32 * scale
 }
 
 // The number that a stored INT4 code stands for under the scale 1.0.

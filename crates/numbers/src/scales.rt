@@ -9,14 +9,12 @@ pub fn largest_magnitude(run: &[u32]) -> f32
     ensures { result ≡ largest run.now }
 {
     let mut most = 0.0f32;
-    let mut i = 0;
-    while i < run.len() {
-        let x = word_to_f32(run[i] % 0x8000_0000);
+    for w in run {
+        let x = word_to_f32(*w % 0x8000_0000);
         let larger = most < x;
         if larger {
             most = x;
         }
-        i += 1;
     }
     most
 }

@@ -6,9 +6,9 @@ ghost use Rattle.numbers.specs.Word.{float, word, bf16, from_bf16};
 pub fn word_to_f32(w: u32) -> f32
     ensures { result ≡ float w }
 {
-    // `from_bits` is not defined at a NaN pattern, so that the NaN is made by arithmetic.
+    // `from_bits` is not defined at a NaN pattern.
     if 0x7F80_0000 < w % 0x8000_0000 {
-        0.0 / 0.0
+        f32::NAN
     } else {
         f32::from_bits(w)
     }
@@ -18,7 +18,7 @@ pub fn word_to_f32(w: u32) -> f32
 pub fn f32_to_word(x: f32) -> u32
     ensures { result ≡ word x }
 {
-    if x != x { 0x7FC0_0000 } else { f32::to_bits(x) }
+    if x.is_nan() { 0x7FC0_0000 } else { x.to_bits() }
 }
 
 // The BF16 pattern nearest to a word's. The Rust's `f32_to_bf16`.
@@ -26,7 +26,7 @@ pub fn f32_to_bf16(w: u32) -> u16
     ensures { result ≡ bf16 w }
 {
     let odd = w / 0x1_0000 % 2;
-    let sum = std::num::wrapping_add_u32(w, 0x7FFF + odd);
+    let sum = w.wrapping_add(0x7FFF + odd);
     (sum / 0x1_0000) as u16
 }
 

@@ -10,11 +10,11 @@ use shapes::{cell_bytes, is_known, scale_words, whole_groups};
 pub fn rows_fit(format: u32, d: usize, m: usize, cells: usize, scales: usize) -> bool
     ensures { result ≡ rows_fit_of format d m cells scales }
 {
-    if !((d <= 256) & (m <= 4096)) {
+    if 256 < d || 4096 < m {
         return false;
     }
     is_known(format)
-        & (whole_groups(format, d)
-            & ((cells == m * cell_bytes(format, d as u32))
-                & (scales == m * scale_words(format, d as u32))))
+        & whole_groups(format, d)
+        & (cells == m * cell_bytes(format, d as u32))
+        & (scales == m * scale_words(format, d as u32))
 }

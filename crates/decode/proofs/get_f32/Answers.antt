@@ -1,23 +1,20 @@
 -- The numbers passed are read from the cells passed, and what is left is as it was.
-use mathlib.Core.Path.{refl}
-use Prim.Native.Nat.{◌*◌}
+use mathlib.Core.Path.{refl, ◌∙◌}
 use native.Mathlib.Omega.{arith}
-use borrow.Author.Rules.{rules}
 use Rattle.lists.specs.Chunks.{tab}
 use Rattle.lists.proofs.Tab.{tab-set, tab-done}
 use Rattle.rows.specs.Row.{f32_numbers}
-use Rattle.decode.proofs.DecodeLaws.{word_lent}
+use Rattle.decode.proofs.DecodeLaws.{number_at}
 use Rattle.decode.proofs.get_f32.Goals as goal
 
 pub loop-d-init : goal.loop-d-init
 unfolding tab
-loop-d-init c = search rules
+loop-d-init c = refl
 
 pub loop-d-preserved : goal.loop-d-preserved
 loop-d-preserved c =
-    let cells = c.args.cells.now in
-    (omega arith, tab-set _ _ _ (omega arith) c.loop-d.invariant.1 (word_lent cells (c.loop-d.d * 4) c.word_of.ensures (omega arith)), search rules)
+    tab-set _ _ _ (omega arith) c.loop-d.invariant (c.from_le_bytes.ensures ∙ number_at 3 c.loop-d.d c.args.cells.now c.as_chunks.ensures.front (omega arith))
 
 pub returns : goal.returns
 unfolding f32_numbers
-returns c = tab-done _ _ _ c.loop-d.invariant.1 (omega arith) refl
+returns c = tab-done _ _ _ c.loop-d.invariant (omega arith) refl

@@ -1,5 +1,5 @@
 -- The numbers passed are those of the groups passed, and what is left is as it was.
-use Prim.Native.Nat.{◌-◌, ◌*◌}
+use Prim.Native.Nat.{◌*◌}
 use lib.ListN.{length, get_or}
 use Rattle.lists.specs.Chunks.{part}
 use Rattle.lists.proofs.Loop.{Passed}
@@ -9,6 +9,3 @@ use Rattle.decode.proofs.get_int4.Given as goal
 
 abbrev pub invariant-loop-g : goal.invariant-loop-g
 invariant-loop-g l = Passed 32 (length l.scales) (λ i x. unpacked (part (i * 16) 16 l.cells) (float (get_or l.scales i 0))) l.initial.out l.g l.out
-
-abbrev pub decreases-loop-g : goal.decreases-loop-g
-decreases-loop-g l = length l.scales - l.g

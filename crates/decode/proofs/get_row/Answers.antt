@@ -3,11 +3,8 @@ use mathlib.Core.Path.{◌≡◌}
 use mathlib.Core.Bool.{Bool, true}
 use mathlib.Core.List.{List}
 use Prim.Native.Nat.{ℕ}
-use native.Mathlib.Omega.{arith}
 use lib.ListN.{length}
 use Rattle.replies.proofs.Flags.{passed, failed}
-use Rattle.shapes.specs.Format.{layouts}
-use Rattle.shapes.proofs.FormatLaws.{known_below}
 use Rattle.rows.specs.Row.{codings, row_numbers}
 use Rattle.shapes.specs.Buffers.{buffers}
 use Rattle.replies.specs.Tried.{tells}
@@ -31,34 +28,36 @@ unfolding get_row_of
 done format out cells scales e h = tried-done _ _ (passed e h)
 
 pub get_f32-requires : goal.get_f32-requires
-get_f32-requires c = (f32_fits (rw c.in-0.is at (facts c.rows_fit.ensures c.if-not-rows_fit.false))).0
+get_f32-requires c = (f32_fits (rw (rw c.in-Ok-F32.field-0-is at c.in-Ok-F32.ensures) at (facts c.rows_fit.ensures c.if-not-rows_fit.false))).0
 
 pub get_bf16-requires : goal.get_bf16-requires
-get_bf16-requires c = (bf16_fits (rw c.in-1.is at (facts c.rows_fit.ensures c.if-not-rows_fit.false))).0
+get_bf16-requires c = (bf16_fits (rw (rw c.in-Ok-Bf16.field-0-is at c.in-Ok-Bf16.ensures) at (facts c.rows_fit.ensures c.if-not-rows_fit.false))).0
 
 pub get_int8-requires : goal.get_int8-requires
-get_int8-requires c = int8_fits (rw c.in-2.is at (facts c.rows_fit.ensures c.if-not-rows_fit.false))
+get_int8-requires c = int8_fits (rw (rw c.in-Ok-Int8.field-0-is at c.in-Ok-Int8.ensures) at (facts c.rows_fit.ensures c.if-not-rows_fit.false))
 
 pub get_int4-requires : goal.get_int4-requires
-get_int4-requires c = int4_fits (rw c.in-3.is at (facts c.rows_fit.ensures c.if-not-rows_fit.false))
+get_int4-requires c = int4_fits (rw (rw c.in-Ok-Int4.field-0-is at c.in-Ok-Int4.ensures) at (facts c.rows_fit.ensures c.if-not-rows_fit.false))
 
-pub returns-in-0 : goal.returns-in-0
+pub returns-in-Ok-F32 : goal.returns-in-Ok-F32
 unfolding row_numbers codings
-returns-in-0 c = done _ _ _ _ c.rows_fit.ensures c.if-not-rows_fit.false (rw c.in-0.is c.get_f32.ensures)
+returns-in-Ok-F32 c = done _ _ _ _ c.rows_fit.ensures c.if-not-rows_fit.false (rw (rw c.in-Ok-F32.field-0-is at c.in-Ok-F32.ensures) c.get_f32.ensures)
 
-pub returns-in-1 : goal.returns-in-1
+pub returns-in-Ok-Bf16 : goal.returns-in-Ok-Bf16
 unfolding row_numbers codings
-returns-in-1 c = done _ _ _ _ c.rows_fit.ensures c.if-not-rows_fit.false (rw c.in-1.is c.get_bf16.ensures)
+returns-in-Ok-Bf16 c = done _ _ _ _ c.rows_fit.ensures c.if-not-rows_fit.false (rw (rw c.in-Ok-Bf16.field-0-is at c.in-Ok-Bf16.ensures) c.get_bf16.ensures)
 
-pub returns-in-2 : goal.returns-in-2
+pub returns-in-Ok-Int8 : goal.returns-in-Ok-Int8
 unfolding row_numbers codings
-returns-in-2 c = done _ _ _ _ c.rows_fit.ensures c.if-not-rows_fit.false (rw c.in-2.is c.get_int8.ensures)
+returns-in-Ok-Int8 c = done _ _ _ _ c.rows_fit.ensures c.if-not-rows_fit.false (rw (rw c.in-Ok-Int8.field-0-is at c.in-Ok-Int8.ensures) c.get_int8.ensures)
 
-pub returns-in-3 : goal.returns-in-3
+pub returns-in-Ok-Int4 : goal.returns-in-Ok-Int4
 unfolding row_numbers codings
-returns-in-3 c = done _ _ _ _ c.rows_fit.ensures c.if-not-rows_fit.false (rw c.in-3.is c.get_int4.ensures)
+returns-in-Ok-Int4 c = done _ _ _ _ c.rows_fit.ensures c.if-not-rows_fit.false (rw (rw c.in-Ok-Int4.field-0-is at c.in-Ok-Int4.ensures) c.get_int4.ensures)
 
 -- a format that is not known was refused
-pub returns-in_default : goal.returns-in_default
-unfolding layouts
-returns-in_default c = let k = known_below _ (facts c.rows_fit.ensures c.if-not-rows_fit.false).known in absurd (omega arith)
+pub returns-in-Err : goal.returns-in-Err
+returns-in-Err c =
+    let k = (facts c.rows_fit.ensures c.if-not-rows_fit.false).known in
+    let n = c.in-Err.ensures in
+    cc

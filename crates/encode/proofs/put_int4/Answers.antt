@@ -3,7 +3,7 @@ use mathlib.Core.Path.{◌≡◌, refl}
 use Prim.Native.Nat.{◌/◌}
 use native.Mathlib.Nat.{add-sub_cancel_left}
 use native.Mathlib.Omega.{arith}
-use lib.ListN.{length, length-take, length-drop}
+use lib.ListN.{length}
 use borrow.Author.Rules.{rules}
 use Rattle.lists.specs.Chunks.{tab, each}
 use Rattle.lists.proofs.Loop.{chunk_turn, over, over_done}
@@ -16,16 +16,12 @@ pub loop-g-init : goal.loop-g-init
 unfolding tab each
 loop-g-init c = search rules
 
-pub put_group-requires : goal.put_group-requires
-put_group-requires c = (simp (length-take, length-drop) (omega arith), simp (length-take, length-drop) (omega arith))
-
 pub loop-g-preserved : goal.loop-g-preserved
 loop-g-preserved c =
     let inv = c.loop-g.invariant in
     let put = c.put_group.ensures in (
       chunk_turn (over (λ i w. packed-length _ _) c.requires.1) inv.0 (omega arith) refl (rw add-sub_cancel_left at put.cells),
       tab-set _ _ _ (omega arith) inv.1 (rw add-sub_cancel_left at put.scale),
-      search rules,
     )
 
 pub returns : goal.returns

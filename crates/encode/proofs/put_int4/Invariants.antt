@@ -1,7 +1,6 @@
 -- The cells and scale words passed are those of the groups passed, and what is left is as it was.
 use mathlib.Core.Path.{◌≡◌}
 use mathlib.Core.List.{◌++◌}
-use Prim.Native.Nat.{◌-◌}
 use lib.ListN.{length, drop}
 use Rattle.lists.specs.Chunks.{tab}
 use Rattle.lists.proofs.Loop.{Passed}
@@ -14,7 +13,3 @@ abbrev pub invariant-loop-g : goal.invariant-loop-g
 invariant-loop-g l =
     Passed 16 (length l.initial.scales) (λ i x. packed (group i l.run) (group_scale_of i l.run)) l.initial.cells l.g l.cells
     × (l.scales ≡ tab l.g (λ i. word (group_scale_of i l.run)) ++ drop l.g l.initial.scales)
-    × (length l.scales ≡ length l.initial.scales)
-
-abbrev pub decreases-loop-g : goal.decreases-loop-g
-decreases-loop-g l = length l.initial.scales - l.g

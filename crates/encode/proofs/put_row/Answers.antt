@@ -3,11 +3,8 @@ use mathlib.Core.Path.{◌≡◌}
 use mathlib.Core.Bool.{Bool, true}
 use mathlib.Core.List.{List}
 use Prim.Native.Nat.{ℕ}
-use native.Mathlib.Omega.{arith}
 use lib.ListN.{length}
 use Rattle.replies.proofs.Flags.{passed, failed}
-use Rattle.shapes.specs.Format.{layouts}
-use Rattle.shapes.proofs.FormatLaws.{known_below}
 use Rattle.rows.specs.Fit.{row_fits_of}
 use Rattle.rows.specs.Row.{codings, row_cells, row_scales}
 use Rattle.shapes.specs.Buffers.{buffers}
@@ -35,57 +32,57 @@ pub put_f32-requires : goal.put_f32-requires
 put_f32-requires c =
     let a = c.args in
     let f = fact a.format a.run.now a.cells.now a.scales.now c.rows_fit.ensures c.if-not-rows_fit.false in
-    (f.small, (f32_fits (rw c.in-0.is at f)).0)
+    (f.small, (f32_fits (rw (rw c.in-Ok-F32.field-0-is at c.in-Ok-F32.ensures) at f)).0)
 
 pub put_bf16-requires : goal.put_bf16-requires
 put_bf16-requires c =
     let a = c.args in
-    (bf16_fits (rw c.in-1.is at (fact a.format a.run.now a.cells.now a.scales.now c.rows_fit.ensures c.if-not-rows_fit.false))).0
+    (bf16_fits (rw (rw c.in-Ok-Bf16.field-0-is at c.in-Ok-Bf16.ensures) at (fact a.format a.run.now a.cells.now a.scales.now c.rows_fit.ensures c.if-not-rows_fit.false))).0
 
 pub put_int8-requires : goal.put_int8-requires
 put_int8-requires c =
     let a = c.args in
-    int8_fits (rw c.in-2.is at (fact a.format a.run.now a.cells.now a.scales.now c.rows_fit.ensures c.if-not-rows_fit.false))
+    int8_fits (rw (rw c.in-Ok-Int8.field-0-is at c.in-Ok-Int8.ensures) at (fact a.format a.run.now a.cells.now a.scales.now c.rows_fit.ensures c.if-not-rows_fit.false))
 
 pub put_int4-requires : goal.put_int4-requires
 put_int4-requires c =
     let a = c.args in
-    int4_fits (rw c.in-3.is at (fact a.format a.run.now a.cells.now a.scales.now c.rows_fit.ensures c.if-not-rows_fit.false))
+    int4_fits (rw (rw c.in-Ok-Int4.field-0-is at c.in-Ok-Int4.ensures) at (fact a.format a.run.now a.cells.now a.scales.now c.rows_fit.ensures c.if-not-rows_fit.false))
 
-pub returns-in-0 : goal.returns-in-0
+pub returns-in-Ok-F32 : goal.returns-in-Ok-F32
 unfolding row_cells row_scales codings
-returns-in-0 c =
+returns-in-Ok-F32 c =
     let a = c.args in
-    let e = c.in-0.is in
+    let e = (rw c.in-Ok-F32.field-0-is at c.in-Ok-F32.ensures) in
     let f = fact a.format a.run.now a.cells.now a.scales.now c.rows_fit.ensures c.if-not-rows_fit.false in
     done a.format a.run.now a.cells.now a.scales.now c.rows_fit.ensures c.if-not-rows_fit.false (rw e c.put_f32.ensures) (rw e (none_there _ (f32_fits (rw e at f)).1))
 
-pub returns-in-1 : goal.returns-in-1
+pub returns-in-Ok-Bf16 : goal.returns-in-Ok-Bf16
 unfolding row_cells row_scales codings
-returns-in-1 c =
+returns-in-Ok-Bf16 c =
     let a = c.args in
-    let e = c.in-1.is in
+    let e = (rw c.in-Ok-Bf16.field-0-is at c.in-Ok-Bf16.ensures) in
     let f = fact a.format a.run.now a.cells.now a.scales.now c.rows_fit.ensures c.if-not-rows_fit.false in
     done a.format a.run.now a.cells.now a.scales.now c.rows_fit.ensures c.if-not-rows_fit.false (rw e c.put_bf16.ensures) (rw e (none_there _ (bf16_fits (rw e at f)).1))
 
-pub returns-in-2 : goal.returns-in-2
+pub returns-in-Ok-Int8 : goal.returns-in-Ok-Int8
 unfolding row_cells row_scales codings
-returns-in-2 c =
+returns-in-Ok-Int8 c =
     let a = c.args in
     let y = c.put_int8.ensures in
-    done a.format a.run.now a.cells.now a.scales.now c.rows_fit.ensures c.if-not-rows_fit.false (rw c.in-2.is y.cells) (rw c.in-2.is y.scales)
+    done a.format a.run.now a.cells.now a.scales.now c.rows_fit.ensures c.if-not-rows_fit.false (rw (rw c.in-Ok-Int8.field-0-is at c.in-Ok-Int8.ensures) y.cells) (rw (rw c.in-Ok-Int8.field-0-is at c.in-Ok-Int8.ensures) y.scales)
 
-pub returns-in-3 : goal.returns-in-3
+pub returns-in-Ok-Int4 : goal.returns-in-Ok-Int4
 unfolding row_cells row_scales codings
-returns-in-3 c =
+returns-in-Ok-Int4 c =
     let a = c.args in
     let y = c.put_int4.ensures in
-    done a.format a.run.now a.cells.now a.scales.now c.rows_fit.ensures c.if-not-rows_fit.false (rw c.in-3.is y.cells) (rw c.in-3.is y.scales)
+    done a.format a.run.now a.cells.now a.scales.now c.rows_fit.ensures c.if-not-rows_fit.false (rw (rw c.in-Ok-Int4.field-0-is at c.in-Ok-Int4.ensures) y.cells) (rw (rw c.in-Ok-Int4.field-0-is at c.in-Ok-Int4.ensures) y.scales)
 
 -- a format that is not known was refused
-pub returns-in_default : goal.returns-in_default
-unfolding layouts
-returns-in_default c =
+pub returns-in-Err : goal.returns-in-Err
+returns-in-Err c =
     let a = c.args in
-    let k = known_below _ (fact a.format a.run.now a.cells.now a.scales.now c.rows_fit.ensures c.if-not-rows_fit.false).known in
-    absurd (omega arith)
+    let k = (fact a.format a.run.now a.cells.now a.scales.now c.rows_fit.ensures c.if-not-rows_fit.false).known in
+    let n = c.in-Err.ensures in
+    cc

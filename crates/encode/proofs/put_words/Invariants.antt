@@ -1,5 +1,4 @@
 -- The cells passed hold the numbers passed, and what is left is as it was.
-use Prim.Native.Nat.{◌-◌}
 use lib.ListN.{length, get_or}
 use Rattle.lists.proofs.Loop.{Passed}
 use Rattle.lists.specs.Bytes.{little}
@@ -7,6 +6,3 @@ use Rattle.encode.proofs.put_words.Given as goal
 
 abbrev pub invariant-loop-d : goal.invariant-loop-d
 invariant-loop-d l = Passed 4 (length l.words) (λ i x. little 4 (get_or l.words i 0)) l.initial.cells l.d l.cells
-
-abbrev pub decreases-loop-d : goal.decreases-loop-d
-decreases-loop-d l = length l.words - l.d

@@ -1,5 +1,5 @@
 -- The numbers passed are those of the half, and what is left is as it was.
-use borrow.Author.Rules.{rules}
+use mathlib.Core.Path.{refl}
 use native.Mathlib.Omega.{arith}
 use Rattle.lists.specs.Chunks.{tab}
 use Rattle.lists.proofs.Tab.{tab-set, tab-done}
@@ -8,11 +8,11 @@ use Rattle.groups.proofs.unpack_half.Goals as goal
 
 pub loop-i-init : goal.loop-i-init
 unfolding tab
-loop-i-init c = search rules
+loop-i-init c = refl
 
 pub loop-i-preserved : goal.loop-i-preserved
-loop-i-preserved c = (omega arith, tab-set _ _ _ (omega arith) c.loop-i.invariant.1 (cc), search rules)
+loop-i-preserved c = tab-set _ _ _ (omega arith) c.loop-i.invariant (cc)
 
 pub returns : goal.returns
 unfolding half
-returns c = tab-done _ _ _ c.loop-i.invariant.1 (omega arith) c.requires.1
+returns c = tab-done _ _ _ c.loop-i.invariant (omega arith) c.requires.1

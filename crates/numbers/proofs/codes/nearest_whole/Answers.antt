@@ -1,8 +1,8 @@
 -- The magnitude is clamped to 128 at most, so that the sum with 2^23 rounds it, and where a half is left one more is the nearest.
-use Rattle.std.proofs.Common.{◌≡◌, ℕ, ◌≤◌, cond, pos, arith, le→leb}
-use lib.Ieee.{Float, lt, in_float}
+use Rattle.std.proofs.Common.{◌≡◌, ℕ, ◌≤◌, cond, pos, arith}
+use lib.Ieee.{Float, lt}
 use Rattle.numbers.specs.Word.{float, whole}
-use Rattle.numbers.proofs.Halves.{Nearest, clamped_before, ending, raised_no_nan, one_more, no_more}
+use Rattle.numbers.proofs.Halves.{Nearest, clamped_before, raised_no_nan, one_more, no_more}
 use Rattle.numbers.proofs.Patterns.{up_to_infinity}
 use Rattle.numbers.proofs.Signs.{counts}
 use Rattle.numbers.proofs.codes.nearest_whole.Goals as goal
@@ -17,10 +17,6 @@ float_from_bits-bits c = up_to_infinity _ (omega arith)
 
 pub float_to_bits-n : goal.float_to_bits-n
 float_to_bits-n c = raised_no_nan (rounds _ _ _ c.requires.0 c.requires.1 c.smaller-x.ensures)
-
-pub int_to_float-n : goal.int_to_float-n
-unfolding in_float
-int_to_float-n c = le→leb (ending c.smaller-x.result) 16777216 (omega arith)
 
 pub returns-then-x-n : goal.returns-then-x-n
 returns-then-x-n c = one_more (rounds _ _ _ c.requires.0 c.requires.1 c.smaller-x.ensures) c.if-x-n.true
