@@ -5,6 +5,8 @@ ghost use Rattle.std.specs.Prelude.{◌≡◌, ◌++◌, ◌+◌, ◌*◌, ◌�
 ghost use Rattle.printing.specs.Place.{Placed};
 ghost use Rattle.printing.specs.Text.{decimal, spaced, answer_text_of, report_text_of, bad_text_of, laid_at};
 
+use itoa::Buffer;
+
 // Lays `ok` for 0, and `no N` for any other N, at an offset, and answers the offset after it.
 pub fn answer_text(n: u32, out: &mut [u8], at: usize) -> usize
     ensures { record { count = result; out = out.new } ≡ laid_at at (answer_text_of n) out.old }
@@ -15,7 +17,7 @@ pub fn answer_text(n: u32, out: &mut [u8], at: usize) -> usize
     if n == 0 {
         return put(b"ok\n", out, at);
     }
-    let end = put_named(b"no ", n as u64, out, at);
+    let end = put_named(b"no ", u64::from(n), out, at);
     put(b"\n", out, end)
 }
 
@@ -33,10 +35,11 @@ pub fn report_text(
     if !has_line(out.len(), at) {
         return at;
     }
-    let a = put_named(b"seq ", seq as u64, out, at);
+    let a = put_named(b"seq ", u64::from(seq), out, at);
     let b = put_named(b" bytes ", bytes, out, a);
     let c = put(b" len", out, b);
-    let d = put_lengths(lens, layers, out, c);
+    let count = (layers as usize).min(lens.len());
+    let d = put_lengths(&lens[..count], out, c);
     put(b"\n", out, d)
 }
 
@@ -55,11 +58,7 @@ pub fn bad_text(n: u64, out: &mut [u8], at: usize) -> usize
 fn has_line(size: usize, at: usize) -> bool
     ensures { result ≡ leb (at + 2048) size }
 {
-    if size < 2048 {
-        false
-    } else {
-        at <= size - 2048
-    }
+    2048 <= size.saturating_sub(at)
 }
 
 // Puts a text into a buffer at a place, and answers the place after it.
@@ -67,12 +66,9 @@ fn put(text: &[u8], out: &mut [u8], at: usize) -> usize
     requires { at + length text.now ≤ length out.old }
     ensures { Placed at text.now out.old result out.new }
 {
-    let mut i = 0;
-    while i < text.len() {
-        out[at + i] = text[i];
-        i += 1;
-    }
-    at + i
+    let end = at + text.len();
+    out[at..end].copy_from_slice(text);
+    end
 }
 
 // The same with a number's digits.
@@ -80,13 +76,7 @@ fn put_number(n: u64, out: &mut [u8], at: usize) -> usize
     requires { at + 20 ≤ length out.old }
     ensures { Placed at (decimal n) out.old result out.new }
 {
-    if n < 10 {
-        out[at] = b'0' + n as u8;
-        return at + 1;
-    }
-    let end = put_number(n / 10, out, at);
-    out[end] = b'0' + (n % 10) as u8;
-    end + 1
+    put(Buffer::new().format(n).as_bytes(), out, at)
 }
 
 // The same with a name and a number.
@@ -99,22 +89,15 @@ fn put_named(name: &[u8], n: u64, out: &mut [u8], at: usize) -> usize
     put_number(n, out, end)
 }
 
-// The same with a space and a number for each of the first `layers` lengths, or for all.
-fn put_lengths(lens: &[u32], layers: u32, out: &mut [u8], at: usize) -> usize
+// The same with a space and a number for each length.
+fn put_lengths(lens: &[u32], out: &mut [u8], at: usize) -> usize
     requires { at + 11 * length lens.now + 20 ≤ length out.old }
-    ensures placed { Placed at (spaced (take layers lens.now)) out.old result out.new }
+    ensures placed { Placed at (spaced lens.now) out.old result out.new }
     ensures upper_bound { result ≤ at + 11 * length lens.now }
 {
-    let count = layers as usize;
     let mut end = at;
-    let mut i = 0;
-    while i < lens.len() {
-        if count <= i {
-            return end;
-        }
-        out[end] = b' ';
-        end = put_number(lens[i] as u64, out, end + 1);
-        i += 1;
+    for n in lens {
+        end = put_named(b" ", u64::from(*n), out, end);
     }
     end
 }

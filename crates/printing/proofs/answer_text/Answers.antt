@@ -20,5 +20,5 @@ pub returns : goal.returns
 unfolding answer_text_of
 returns c =
     let h = has_room _ _ c.has_line.ensures c.if-not-has_line.false in
-    rw (ne_eqb c.args.n 0 c.if-n-eq0.false)
+    rw (ne_eqb c.args.n 0 c.if-n-eq0.false, ← c.from.ensures)
     (placed_laid_at h (simp append_assoc at (placed_then c.put_named-end.ensures.placed c.put-2.ensures (omega arith))))

@@ -1,12 +1,12 @@
--- The first i lengths have been put, each in at most 11 bytes, and each turn puts one more.
-use Prim.Native.Nat.{◌+◌, ◌-◌, ◌*◌, ◌≤◌}
-use lib.ListN.{length, take}
+-- The first lengths have been put, each in at most 11 bytes.
+use Prim.Native.Nat.{◌+◌, ◌*◌, ◌≤◌}
+use lib.ListN.{take}
 use Rattle.printing.specs.Place.{Placed}
 use Rattle.printing.specs.Text.{spaced}
 use Rattle.printing.proofs.put_lengths.Given as goal
 
-abbrev pub invariant-loop-i : goal.invariant-loop-i
-invariant-loop-i l = (l.i ≤ length l.lens) × (l.i ≤ l.count) × (l.end ≤ l.at + 11 * l.i) × Placed l.at (spaced (take l.i l.lens)) l.initial.out l.end l.out
-
-abbrev pub decreases-loop-i : goal.decreases-loop-i
-decreases-loop-i l = length l.lens - l.i
+abbrev pub invariant-loop-n : goal.invariant-loop-n
+invariant-loop-n l = record {
+  within : l.end ≤ l.at + 11 * l.n-index;
+  placed : Placed l.at (spaced (take l.n-index l.lens)) l.initial.out l.end l.out;
+}

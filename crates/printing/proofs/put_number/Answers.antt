@@ -1,24 +1,18 @@
--- The digits of the tenth are put first, and the last digit after them.
-use Prim.Native.Nat.{◌+◌, ◌%◌, ◌<◌}
+-- The digits are those that std prints.
+use mathlib.Core.Path.{◌≡◌, sym, ◌∙◌}
 use native.Mathlib.Omega.{arith}
-use lib.ListN.{length}
-use Rattle.printing.proofs.DigitLaws.{decimal_one, decimal-last, tenth_length}
-use Rattle.printing.proofs.PlaceLaws.{placed_byte, placed_next}
-use Rattle.printing.proofs.+put_number.Goals as goal
+use Rattle.printing.specs.Text.{decimal}
+use Rattle.printing.proofs.DigitLaws.{decimal_std, decimal-length}
+use Rattle.printing.proofs.put_number.Goals as goal
 
-pub returns-then-n-lt10 : goal.returns-then-n-lt10
-returns-then-n-lt10 t c =
-    let a = c.args in
-    rw (decimal_one a.n c.if-n-lt10.true) (placed_byte a.at (48 + a.n) a.out.now (omega arith))
-
-pub bounds-out-end : goal.bounds-out-end
-bounds-out-end t c = omega (arith, tenth_length c.args.n (omega arith))
-
-pub overflow_add-result-2 : goal.overflow_add-result-2
-overflow_add-result-2 t c = omega (arith, tenth_length c.args.n (omega arith))
+pub put-requires : goal.put-requires
+put-requires c =
+    let n = c.args.n in
+    let d : c.as_bytes.result.now ≡ decimal n = c.as_bytes.ensures.value ∙ c.format.ensures.text ∙ sym (decimal_std n (omega arith)) in
+    rw d (omega (arith, decimal-length n))
 
 pub returns : goal.returns
-returns t c =
+returns c =
     let n = c.args.n in
-    let room : c.put_number-end.result < length c.args.out.now = omega (arith, tenth_length n (omega arith)) in
-    rw (decimal-last n (omega arith) (omega arith)) (placed_next (48 + n % 10) c.put_number-end.ensures room)
+    let d : c.as_bytes.result.now ≡ decimal n = c.as_bytes.ensures.value ∙ c.format.ensures.text ∙ sym (decimal_std n (omega arith)) in
+    rw d at c.put.ensures
