@@ -1,11 +1,12 @@
 // The lines that a call file has printed, as bytes: the paper's section Call file.
 #![tactic(auto)]
 
-ghost use Rattle.std.specs.Prelude.{◌≡◌, ◌++◌, ◌+◌, ◌*◌, ◌≤◌, length, take, leb};
-ghost use Rattle.printing.specs.Place.{Placed};
-ghost use Rattle.printing.specs.Text.{decimal, spaced, answer_text_of, report_text_of, bad_text_of, laid_at};
+mod page;
 
-use itoa::Buffer;
+ghost use Rattle.std.specs.Prelude.{◌≡◌, ◌+◌, take, leb};
+ghost use Rattle.printing.specs.Text.{answer_text_of, report_text_of, bad_text_of, laid_at};
+
+use page::Page;
 
 // Lays `ok` for 0, and `no N` for any other N, at an offset, and answers the offset after it.
 pub fn answer_text(n: u32, out: &mut [u8], at: usize) -> usize
@@ -14,11 +15,14 @@ pub fn answer_text(n: u32, out: &mut [u8], at: usize) -> usize
     if !has_line(out.len(), at) {
         return at;
     }
+    let mut page = Page { out, at };
     if n == 0 {
-        return put(b"ok\n", out, at);
+        page.put(b"ok\n");
+        return page.at;
     }
-    let end = put_named(b"no ", u64::from(n), out, at);
-    put(b"\n", out, end)
+    page.put_named(b"no ", u64::from(n));
+    page.put(b"\n");
+    page.at
 }
 
 // The same with `seq S bytes M len a b ..`, the lengths being the first `layers`.
@@ -35,12 +39,14 @@ pub fn report_text(
     if !has_line(out.len(), at) {
         return at;
     }
-    let a = put_named(b"seq ", u64::from(seq), out, at);
-    let b = put_named(b" bytes ", bytes, out, a);
-    let c = put(b" len", out, b);
     let count = (layers as usize).min(lens.len());
-    let d = put_lengths(&lens[..count], out, c);
-    put(b"\n", out, d)
+    let mut page = Page { out, at };
+    page.put_named(b"seq ", u64::from(seq));
+    page.put_named(b" bytes ", bytes);
+    page.put(b" len");
+    page.put_lengths(&lens[..count]);
+    page.put(b"\n");
+    page.at
 }
 
 // The same with `bad at N`.
@@ -50,8 +56,10 @@ pub fn bad_text(n: u64, out: &mut [u8], at: usize) -> usize
     if !has_line(out.len(), at) {
         return at;
     }
-    let end = put_named(b"bad at ", n, out, at);
-    put(b"\n", out, end)
+    let mut page = Page { out, at };
+    page.put_named(b"bad at ", n);
+    page.put(b"\n");
+    page.at
 }
 
 // Whether the 2,048 bytes that any line fits in are left from an offset on.
@@ -59,45 +67,4 @@ fn has_line(size: usize, at: usize) -> bool
     ensures { result ≡ leb (at + 2048) size }
 {
     2048 <= size.saturating_sub(at)
-}
-
-// Puts a text into a buffer at a place, and answers the place after it.
-fn put(text: &[u8], out: &mut [u8], at: usize) -> usize
-    requires { at + length text.now ≤ length out.old }
-    ensures { Placed at text.now out.old result out.new }
-{
-    let end = at + text.len();
-    out[at..end].copy_from_slice(text);
-    end
-}
-
-// The same with a number's digits.
-fn put_number(n: u64, out: &mut [u8], at: usize) -> usize
-    requires { at + 20 ≤ length out.old }
-    ensures { Placed at (decimal n) out.old result out.new }
-{
-    put(Buffer::new().format(n).as_bytes(), out, at)
-}
-
-// The same with a name and a number.
-fn put_named(name: &[u8], n: u64, out: &mut [u8], at: usize) -> usize
-    requires { at + length name.now + 20 ≤ length out.old }
-    ensures placed { Placed at (name.now ++ decimal n) out.old result out.new }
-    ensures upper_bound { result ≤ at + length name.now + 20 }
-{
-    let end = put(name, out, at);
-    put_number(n, out, end)
-}
-
-// The same with a space and a number for each length.
-fn put_lengths(lens: &[u32], out: &mut [u8], at: usize) -> usize
-    requires { at + 11 * length lens.now + 20 ≤ length out.old }
-    ensures placed { Placed at (spaced lens.now) out.old result out.new }
-    ensures upper_bound { result ≤ at + 11 * length lens.now }
-{
-    let mut end = at;
-    for n in lens {
-        end = put_named(b" ", u64::from(*n), out, end);
-    }
-    end
 }
