@@ -8,9 +8,6 @@ use shapes::Shape;
 
 pub mod reader;
 
-// The two bytes that each record begins with.
-const MARK: [u8; 2] = [0x4B, 0x56];
-
 // What stands at a place: a record of one of the five kinds with its fields, the end of the file, or no record.
 #[derive(Clone, Copy)]
 pub enum Entry {
@@ -40,6 +37,7 @@ impl Entry {
 }
 
 // What stands at a place.
+#[tactic(auto, using(crate::proofs::FormatLaws::rest_from, crate::proofs::FormatLaws::entry_from), unfolding(crate::specs::Format::entry_at_of))]
 pub fn entry_at(file: &[u8], at: usize) -> Entry
     ensures { result ≡ entry_at_of file.now at }
 {
@@ -50,12 +48,13 @@ pub fn entry_at(file: &[u8], at: usize) -> Entry
 }
 
 // What stands at the start of some bytes.
+#[tactic(auto, unfolding(crate::specs::Format::entry_at_of))]
 fn first_entry(bytes: &[u8]) -> Entry
     ensures { result ≡ entry_at_of bytes.now 0 }
 {
     match bytes {
         [] => Entry::End,
-        [first, second, kind, ..] if [*first, *second] == MARK => record(*kind, bytes),
+        [0x4B, 0x56, kind, ..] => record(*kind, bytes),
         _ => Entry::Bad,
     }
 }
@@ -75,6 +74,7 @@ fn record(kind: u8, bytes: &[u8]) -> Entry
     }
 }
 
+#[tactic(auto, using(crate::proofs::FormatLaws::number_byte, crate::proofs::FormatLaws::number_pair), unfolding(crate::specs::Format::open_at))]
 fn open(bytes: &[u8]) -> Entry
     ensures { result ≡ open_at bytes.now 0 }
 {
@@ -92,6 +92,7 @@ fn open(bytes: &[u8]) -> Entry
     }
 }
 
+#[tactic(auto, using(crate::proofs::FormatLaws::number_pair), unfolding(crate::specs::Format::append_at_of))]
 fn append(bytes: &[u8]) -> Entry
     ensures { result ≡ append_at_of bytes.now 0 }
 {
@@ -110,6 +111,7 @@ fn append(bytes: &[u8]) -> Entry
     }
 }
 
+#[tactic(auto, using(crate::proofs::FormatLaws::number_pair), unfolding(crate::specs::Format::truncate_at_of))]
 fn truncate(bytes: &[u8]) -> Entry
     ensures { result ≡ truncate_at_of bytes.now 0 }
 {
@@ -122,6 +124,7 @@ fn truncate(bytes: &[u8]) -> Entry
     }
 }
 
+#[tactic(auto, using(crate::proofs::FormatLaws::number_quad), unfolding(crate::specs::Format::advance_at_of))]
 fn advance(bytes: &[u8]) -> Entry
     ensures { result ≡ advance_at_of bytes.now 0 }
 {
