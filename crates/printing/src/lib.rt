@@ -9,6 +9,7 @@ ghost use Rattle.printing.specs.Text.{answer_text_of, report_text_of, bad_text_o
 use page::Page;
 
 // Lays `ok` for 0, and `no N` for any other N, at an offset, and answers the offset after it.
+#[tactic(auto, unfolding(crate::specs::Text::laid_at))]
 pub fn answer_text(n: u32, out: &mut [u8], at: usize) -> usize
     ensures { record { count = result; out = out.new } ≡ laid_at at (answer_text_of n) out.old }
 {
@@ -26,6 +27,7 @@ pub fn answer_text(n: u32, out: &mut [u8], at: usize) -> usize
 }
 
 // The same with `seq S bytes M len a b ..`, the lengths being the first `layers`.
+#[tactic(auto, unfolding(crate::specs::Text::laid_at))]
 pub fn report_text(
     seq: u32,
     bytes: u64,
@@ -50,6 +52,7 @@ pub fn report_text(
 }
 
 // The same with `bad at N`.
+#[tactic(auto, unfolding(crate::specs::Text::laid_at))]
 pub fn bad_text(n: u64, out: &mut [u8], at: usize) -> usize
     ensures { record { count = result; out = out.new } ≡ laid_at at (bad_text_of n) out.old }
 {

@@ -3,12 +3,9 @@ use native.Mathlib.Omega.{arith}
 use borrow.Author.Rules.{rules}
 use borrow.Author.Tests.{eq-eqb, ne_eqb}
 use Rattle.printing.specs.Text.{answer_text_of}
-use Rattle.printing.proofs.LaidLaws.{has_room, none_laid}
+use Rattle.printing.proofs.LaidLaws.{has_room}
 use Rattle.printing.proofs.PutLaws.{put_then, put_laid}
 use Rattle.printing.proofs.answer_text.Goals as goal
-
-pub returns-then-not-has_line : goal.returns-then-not-has_line
-returns-then-not-has_line c = none_laid _ (answer_text_of c.args.n) _ c.has_line.ensures c.if-not-has_line.true
 
 pub returns-then-n-eq0 : goal.returns-then-n-eq0
 unfolding answer_text_of

@@ -2,12 +2,9 @@
 use native.Mathlib.Omega.{arith}
 use borrow.Author.Rules.{rules}
 use Rattle.printing.specs.Text.{bad_text_of}
-use Rattle.printing.proofs.LaidLaws.{has_room, none_laid}
+use Rattle.printing.proofs.LaidLaws.{has_room}
 use Rattle.printing.proofs.PutLaws.{put_then, put_laid}
 use Rattle.printing.proofs.bad_text.Goals as goal
-
-pub returns-then-not-has_line : goal.returns-then-not-has_line
-returns-then-not-has_line c = none_laid _ (bad_text_of c.args.n) _ c.has_line.ensures c.if-not-has_line.true
 
 pub returns : goal.returns
 unfolding bad_text_of

@@ -6,14 +6,9 @@ use borrow.Author.Rules.{rules}
 use lib.ListN.{length, take}
 use Rattle.std.proofs.lemmas.List.{take_min}
 use Rattle.printing.specs.Text.{report_text_of}
-use Rattle.printing.proofs.LaidLaws.{has_room, none_laid}
+use Rattle.printing.proofs.LaidLaws.{has_room}
 use Rattle.printing.proofs.PutLaws.{put_then, put_laid}
 use Rattle.printing.proofs.report_text.Goals as goal
-
-pub returns-then-not-has_line : goal.returns-then-not-has_line
-returns-then-not-has_line c =
-    let a = c.args in
-    none_laid _ (report_text_of a.seq a.bytes (take a.layers a.lens.now)) _ c.has_line.ensures c.if-not-has_line.true
 
 pub returns : goal.returns
 unfolding report_text_of
