@@ -144,6 +144,7 @@ fn u16_of(low: u8, high: u8) -> u32
 }
 
 // Reads as many numbers as are lent, from a place on; none where the file has too few bytes.
+#[tactic(auto, using(crate::proofs::FormatLaws::words_kept))]
 pub fn read_words(file: &[u8], at: usize, out: &mut [u32])
     ensures { out.new ≡ words_read file.now at out.old }
 {

@@ -5,18 +5,8 @@ use borrow.Author.Rules.{rules}
 use Rattle.lists.specs.Chunks.{tab}
 use Rattle.lists.proofs.Tab.{tab-set, tab-done}
 use Rattle.callfile.specs.Format.{words}
-use Rattle.callfile.proofs.FormatLaws.{words-read, words_kept, rest_from, word_from}
+use Rattle.callfile.proofs.FormatLaws.{words-read, rest_from, word_from}
 use Rattle.callfile.proofs.read_words.Goals as goal
-
-pub returns-in_default : goal.returns-in_default
-returns-in_default c =
-    let a = c.args in
-    rw (words_kept a.file.now a.at a.out.now (omega (arith, c.in_default.ensures.lookup.0)))
-
-pub returns-then-words-out : goal.returns-then-words-out
-returns-then-words-out c =
-    let a = c.args in
-    rw (words_kept a.file.now a.at a.out.now (omega (arith, c.in-Some.ensures.lookup.0, c.as_chunks.ensures.front_len)))
 
 pub loop-i-init : goal.loop-i-init
 unfolding tab
