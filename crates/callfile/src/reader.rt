@@ -1,4 +1,4 @@
-// A reader carries a call file and its place in it. Each function takes it apart and leaves the work to a function on slices.
+// A reader carries a call file and its place in it.
 ghost use Rattle.std.specs.Prelude.{◌≡◌};
 ghost use Rattle.callfile.specs.Format.{entry_at_of};
 
@@ -10,26 +10,25 @@ pub struct Reader<'a> {
     pub place: usize,
 }
 
-// A reader at the first byte.
-pub fn new<'a>(file: &'a [u8]) -> Reader<'a>
-    ensures { (result.file ≡ file.entry) × (result.place ≡ 0) }
-{
-    Reader { file, place: 0 }
-}
-
-// The reader at another place of its file.
-pub fn moved<'a>(r: Reader<'a>, place: usize) -> Reader<'a>
-    ensures { (result.file ≡ r.entry.file) × (result.place ≡ place) }
-{
-    Reader {
-        file: r.file,
-        place,
+impl<'a> Reader<'a> {
+    // A reader at the first byte.
+    pub fn new(file: &'a [u8]) -> Reader<'a>
+        ensures { (result.file ≡ file.entry) × (result.place ≡ 0) }
+    {
+        Reader { file, place: 0 }
     }
-}
 
-// What stands at its place.
-pub fn here<'a>(r: Reader<'a>) -> Entry
-    ensures { result ≡ entry_at_of r.entry.file.now r.entry.place }
-{
-    entry_at(r.file, r.place)
+    // The reader at another place of its file.
+    pub fn moved(self, place: usize) -> Reader<'a>
+        ensures { (result.file ≡ self.entry.file) × (result.place ≡ place) }
+    {
+        Reader { place, ..self }
+    }
+
+    // What stands at its place.
+    pub fn entry(self) -> Entry
+        ensures { result ≡ entry_at_of self.entry.file.now self.entry.place }
+    {
+        entry_at(self.file, self.place)
+    }
 }

@@ -9,8 +9,8 @@ ghost use Rattle.replay.specs.Turn.{turned};
 
 use super::lines::line_text;
 use super::{Played, tell};
-use callfile::reader::{here, moved, new};
-use callfile::{Entry, size_of};
+use callfile::Entry;
+use callfile::reader::Reader;
 use store::Record;
 
 pub(crate) fn walk_file(file: &[u8], cells: &mut [u8], scales: &mut [u32], out: &mut [u8]) -> Played
@@ -18,14 +18,14 @@ pub(crate) fn walk_file(file: &[u8], cells: &mut [u8], scales: &mut [u32], out: 
     ensures { played result cells.new scales.new out.new
         ≡ laid_out (walk_from (length file.now) file.now (start (buffers cells.old scales.old))) out.old }
 {
-    let mut reader = new(file);
+    let mut reader = Reader::new(file);
     let mut so_far = nothing_played();
     loop {
-        so_far = turn(file, here(reader), so_far, cells, scales, out);
+        so_far = turn(file, reader.entry(), so_far, cells, scales, out);
         if so_far.place <= reader.place {
             return so_far;
         }
-        reader = moved(reader, so_far.place);
+        reader = reader.moved(so_far.place);
     }
 }
 
@@ -57,7 +57,7 @@ fn turn(
     let mut after = so_far.after;
     let line = tell(file, so_far.place, entry, &mut after, cells, scales);
     Played {
-        place: so_far.place + size_of(entry),
+        place: so_far.place + entry.size(),
         count: line_text(line, &after, out, so_far.count),
         after,
     }

@@ -14,7 +14,7 @@ loop-so_far-init c =
     }
 
 pub turn-so_far-requires-clause-entry_value : goal.turn-so_far-requires-clause-entry_value
-turn-so_far-requires-clause-entry_value c = rw (c.loop-so_far.invariant.file, c.loop-so_far.invariant.place) at c.here.ensures
+turn-so_far-requires-clause-entry_value c = rw (c.loop-so_far.invariant.file, c.loop-so_far.invariant.place) at c.entry.ensures
 
 pub turn-so_far-requires-clause-so_far_in_bounds : goal.turn-so_far-requires-clause-so_far_in_bounds
 turn-so_far-requires-clause-so_far_in_bounds c =
