@@ -1,12 +1,11 @@
--- Loops that fill a buffer: zeros one by one, and the heads of a side, whose positions are lent out of the whole buffer.
+-- A loop over the heads of a side, whose positions are lent out of the whole buffer.
 -- Each holds by the laws of parts and turns, since a head's block lies a fixed number of elements behind the one before it.
 use mathlib.Core.Path.{◌≡◌, refl, ap, ◌∙◌}
-use mathlib.Core.List.{List, ◌++◌, append-nil}
+use mathlib.Core.List.{List, ◌++◌}
 use Prim.Native.Nat.{ℕ, ◌+◌, ◌-◌, ◌*◌, ◌≤◌, ◌<◌}
 use native.Mathlib.Nat.{add-mul, mul_assoc, mul-le-mul}
 use native.Mathlib.Omega.{arith}
-use borrow.Author.Fill.{fill_more}
-use lib.ListN.{length, take, drop, set, replicate, drop_of_length-le}
+use lib.ListN.{length, take, drop, replicate}
 use Rattle.lists.specs.Chunks.{part, joined, turns}
 use Rattle.lists.proofs.Part.{part_length}
 use Rattle.lists.proofs.At.{at_lent, at_length}
@@ -22,17 +21,6 @@ use Rattle.places.proofs.SpanLaws.{SpanIn, spanned, rows_small, span_in, span_si
 use Rattle.buffers.specs.Fits.{InLayer}
 use Rattle.buffers.specs.Write.{put, written_side}
 use Rattle.buffers.proofs.WriteLaws.{SideRows}
-
--- zeros stored one by one: the turn and the end of the loop
-pub zero_turn : (i : ℕ) (l : List ℕ) {out : List ℕ} → i < length l → out ≡ replicate i 0 ++ drop i l
-    → set out i 0 ≡ replicate (i + 1) 0 ++ drop (i + 1) l
-zero_turn i l h o = rw o (fill_more i 0 l h)
-
-pub zero_done : (i : ℕ) (l : List ℕ) {out : List ℕ} → out ≡ replicate i 0 ++ drop i l → length l ≤ i → i ≤ length l
-    → out ≡ replicate (length l) 0
-zero_done i l o h b =
-    let e : i ≡ length l = omega arith in
-    o ∙ rw (drop_of_length-le l h, e) (append-nil (replicate (length l) 0))
 
 -- positions of head h, lent as `[from..to]` out of a buffer of so many elements
 pub record Ends (b : ℕ) (s : Shape) (l side h p n size from to : ℕ) : Type 0 where

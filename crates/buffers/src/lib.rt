@@ -21,8 +21,8 @@ pub fn clear_all(cells: &mut [u8], scales: &mut [u32])
     ensures cells { cells.new ≡ replicate (length cells.old) 0 }
     ensures scales { scales.new ≡ replicate (length scales.old) 0 }
 {
-    zero_cells(cells);
-    zero_words(scales);
+    cells.fill(0);
+    scales.fill(0);
 }
 
 // Appends keys and values to a layer that has `len` positions, where they fit, and answers whether they do.
@@ -101,9 +101,8 @@ fn put_positions(
     ensures scales { scales.new ≡ written_side (words_of shape) shape layer side p n (scale_row shape numbers.now) scales.old }
 {
     let width = shape.heads as usize * shape.head_size as usize;
-    let mut j = 0;
-    while j < n {
-        let k = next_positions(n - j);
+    for j in (0..n).step_by(8) {
+        let k = (n - j).min(8);
         let a = j * width;
         put_side(
             shape,
@@ -115,15 +114,7 @@ fn put_positions(
             cells,
             scales,
         );
-        j += k;
     }
-}
-
-// How many positions are written next: eight while there are as many.
-fn next_positions(rest: usize) -> usize
-    ensures { result ≡ min rest 8 }
-{
-    if rest < 8 { rest } else { 8 }
 }
 
 // Rows in each head of a side: head after head, a block further in both buffers.
@@ -145,8 +136,7 @@ fn put_side(
     let first = span_of(shape, layer, side, 0, p, n);
     let c = shape.capacity as usize * cell_bytes(shape.format, shape.head_size);
     let w = shape.capacity as usize * scale_words(shape.format, shape.head_size);
-    let mut h = 0;
-    while h < shape.heads as usize {
+    for h in 0..shape.heads as usize {
         let a = h * c;
         let b = h * w;
         put_rows(
@@ -157,7 +147,6 @@ fn put_side(
             &mut cells[first.cells_from + a..first.cells_to + a],
             &mut scales[first.scales_from + b..first.scales_to + b],
         );
-        h += 1;
     }
 }
 
@@ -178,13 +167,11 @@ fn clear_side(
     let first = span_of(shape, layer, side, 0, p, n);
     let c = shape.capacity as usize * cell_bytes(shape.format, shape.head_size);
     let w = shape.capacity as usize * scale_words(shape.format, shape.head_size);
-    let mut h = 0;
-    while h < shape.heads as usize {
+    for h in 0..shape.heads as usize {
         let a = h * c;
         let b = h * w;
-        zero_cells(&mut cells[first.cells_from + a..first.cells_to + a]);
-        zero_words(&mut scales[first.scales_from + b..first.scales_to + b]);
-        h += 1;
+        cells[first.cells_from + a..first.cells_to + a].fill(0);
+        scales[first.scales_from + b..first.scales_to + b].fill(0);
     }
 }
 
@@ -222,8 +209,7 @@ fn put_rows_in(
     let c = cell_bytes(format, shape.head_size);
     let w = scale_words(format, shape.head_size);
     let width = shape.heads as usize * d;
-    let mut i = 0;
-    while i < n {
+    for i in 0..n {
         let from = i * width + h * d;
         let a = i * c;
         let b = i * w;
@@ -233,28 +219,5 @@ fn put_rows_in(
             &mut cells[a..a + c],
             &mut scales[b..b + w],
         );
-        i += 1;
-    }
-}
-
-// Zeroes every cell.
-fn zero_cells(cells: &mut [u8])
-    ensures { cells.new ≡ replicate (length cells.old) 0 }
-{
-    let mut i = 0;
-    while i < cells.len() {
-        cells[i] = 0;
-        i += 1;
-    }
-}
-
-// Zeroes every scale word.
-fn zero_words(words: &mut [u32])
-    ensures { words.new ≡ replicate (length words.old) 0 }
-{
-    let mut i = 0;
-    while i < words.len() {
-        words[i] = 0;
-        i += 1;
     }
 }

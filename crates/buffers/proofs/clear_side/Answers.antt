@@ -1,6 +1,5 @@
 -- The heads passed have their zeros, and each turn lends the positions of one head.
 use native.Mathlib.Omega.{arith}
-use borrow.Author.Count.{falls}
 use lib.ListN.{length-replicate}
 use Rattle.buffers.proofs.LoopLaws.{cells_small, words_small, block_in, no_heads, heads_done, head_turn, zeros_lent}
 use Rattle.buffers.proofs.clear_side.Goals as goal
@@ -46,24 +45,24 @@ overflow_add-first-in-loop-h c =
           c.loop-h.invariant.0.kept c.loop-h.invariant.1.kept,
     )
 
-pub slice_bounds-zero_cells-count : goal.slice_bounds-zero_cells-count
-slice_bounds-zero_cells-count c =
+pub slice_bounds-fill-count : goal.slice_bounds-fill-count
+slice_bounds-fill-count c =
     omega (
       arith,
       block_in c.requires c.loop-h-test.true c.span_of-first.ensures c.cell_bytes.ensures c.scale_words.ensures
           c.loop-h.invariant.0.kept c.loop-h.invariant.1.kept,
     )
 
-pub slice_bounds-zero_cells-start : goal.slice_bounds-zero_cells-start
-slice_bounds-zero_cells-start c =
+pub slice_bounds-fill-start : goal.slice_bounds-fill-start
+slice_bounds-fill-start c =
     omega (
       arith,
       block_in c.requires c.loop-h-test.true c.span_of-first.ensures c.cell_bytes.ensures c.scale_words.ensures
           c.loop-h.invariant.0.kept c.loop-h.invariant.1.kept,
     )
 
-pub slice_bounds-zero_cells-end : goal.slice_bounds-zero_cells-end
-slice_bounds-zero_cells-end c =
+pub slice_bounds-fill-end : goal.slice_bounds-fill-end
+slice_bounds-fill-end c =
     omega (
       arith,
       block_in c.requires c.loop-h-test.true c.span_of-first.ensures c.cell_bytes.ensures c.scale_words.ensures
@@ -94,32 +93,29 @@ offset_bounds-scales-first c =
           c.loop-h.invariant.0.kept c.loop-h.invariant.1.kept,
     )
 
-pub slice_bounds-zero_words-count : goal.slice_bounds-zero_words-count
-slice_bounds-zero_words-count c =
+pub slice_bounds-fill-count-in-loop-h : goal.slice_bounds-fill-count-in-loop-h
+slice_bounds-fill-count-in-loop-h c =
     omega (
       arith,
       block_in c.requires c.loop-h-test.true c.span_of-first.ensures c.cell_bytes.ensures c.scale_words.ensures
           c.loop-h.invariant.0.kept c.loop-h.invariant.1.kept,
     )
 
-pub slice_bounds-zero_words-start : goal.slice_bounds-zero_words-start
-slice_bounds-zero_words-start c =
+pub slice_bounds-fill-start-in-loop-h : goal.slice_bounds-fill-start-in-loop-h
+slice_bounds-fill-start-in-loop-h c =
     omega (
       arith,
       block_in c.requires c.loop-h-test.true c.span_of-first.ensures c.cell_bytes.ensures c.scale_words.ensures
           c.loop-h.invariant.0.kept c.loop-h.invariant.1.kept,
     )
 
-pub slice_bounds-zero_words-end : goal.slice_bounds-zero_words-end
-slice_bounds-zero_words-end c =
+pub slice_bounds-fill-end-in-loop-h : goal.slice_bounds-fill-end-in-loop-h
+slice_bounds-fill-end-in-loop-h c =
     omega (
       arith,
       block_in c.requires c.loop-h-test.true c.span_of-first.ensures c.cell_bytes.ensures c.scale_words.ensures
           c.loop-h.invariant.0.kept c.loop-h.invariant.1.kept,
     )
-
-pub loop-h-smaller : goal.loop-h-smaller
-loop-h-smaller c = falls _ _ c.loop-h-test.true
 
 pub loop-h-preserved : goal.loop-h-preserved
 loop-h-preserved c =
@@ -127,8 +123,8 @@ loop-h-preserved c =
     let w = c.loop-h-test.true in
     let k =
     block_in c.requires w c.span_of-first.ensures c.cell_bytes.ensures c.scale_words.ensures l.0.kept l.1.kept in (
-      head_turn l.0 (λ h v i u. length-replicate _ 0) w k.cells_at (zeros_lent _ k.cells_at c.zero_cells.ensures),
-      head_turn l.1 (λ h v i u. length-replicate _ 0) w k.words_at (zeros_lent _ k.words_at c.zero_words.ensures),
+      head_turn l.0 (λ h v i u. length-replicate _ 0) w k.cells_at (zeros_lent _ k.cells_at (c.fill.ensures.after (λ y e. e))),
+      head_turn l.1 (λ h v i u. length-replicate _ 0) w k.words_at (zeros_lent _ k.words_at (c.fill-in-loop-h.ensures.after (λ y e. e))),
     )
 
 pub returns : goal.returns

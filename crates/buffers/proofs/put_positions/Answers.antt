@@ -53,23 +53,23 @@ loop-j-init c =
 
 pub overflow_mul-a : goal.overflow_mul-a
 overflow_mul-a c =
-    omega (arith, next _ _ _ _ c.requires.numbers_len c.next_positions-k.ensures c.loop-j-test.true, c.requires.in_layer.span)
+    omega (arith, next _ _ _ _ c.requires.numbers_len c.min-k.ensures c.loop-j-test.true, c.requires.in_layer.span)
 
 pub overflow_add-p : goal.overflow_add-p
 overflow_add-p c =
-    omega (arith, next _ _ _ _ c.requires.numbers_len c.next_positions-k.ensures c.loop-j-test.true, c.requires.in_layer.span)
+    omega (arith, next _ _ _ _ c.requires.numbers_len c.min-k.ensures c.loop-j-test.true, c.requires.in_layer.span)
 
 pub overflow_mul-k : goal.overflow_mul-k
 overflow_mul-k c =
-    omega (arith, next _ _ _ _ c.requires.numbers_len c.next_positions-k.ensures c.loop-j-test.true, c.requires.in_layer.span)
+    omega (arith, next _ _ _ _ c.requires.numbers_len c.min-k.ensures c.loop-j-test.true, c.requires.in_layer.span)
 
 pub overflow_add-a : goal.overflow_add-a
 overflow_add-a c =
-    omega (arith, next _ _ _ _ c.requires.numbers_len c.next_positions-k.ensures c.loop-j-test.true, c.requires.in_layer.span)
+    omega (arith, next _ _ _ _ c.requires.numbers_len c.min-k.ensures c.loop-j-test.true, c.requires.in_layer.span)
 
 pub offset_bounds-numbers-a : goal.offset_bounds-numbers-a
 offset_bounds-numbers-a c =
-    omega (arith, next _ _ _ _ c.requires.numbers_len c.next_positions-k.ensures c.loop-j-test.true, c.requires.in_layer.span)
+    omega (arith, next _ _ _ _ c.requires.numbers_len c.min-k.ensures c.loop-j-test.true, c.requires.in_layer.span)
 
 pub slice_bounds-put_side-count : goal.slice_bounds-put_side-count
 slice_bounds-put_side-count c = le-add_right _ _
@@ -78,12 +78,12 @@ pub slice_bounds-put_side-start : goal.slice_bounds-put_side-start
 slice_bounds-put_side-start c = le-add_right _ _
 
 pub slice_bounds-put_side-end : goal.slice_bounds-put_side-end
-slice_bounds-put_side-end c = (next _ _ _ _ c.requires.numbers_len c.next_positions-k.ensures c.loop-j-test.true).2
+slice_bounds-put_side-end c = (next _ _ _ _ c.requires.numbers_len c.min-k.ensures c.loop-j-test.true).2
 
 pub put_side-requires : goal.put_side-requires
 put_side-requires c =
     let a = c.requires.in_layer in
-    let w = next _ _ _ _ c.requires.numbers_len c.next_positions-k.ensures c.loop-j-test.true in
+    let w = next _ _ _ _ c.requires.numbers_len c.min-k.ensures c.loop-j-test.true in
     record {
       in_layer =
           record {
@@ -97,19 +97,21 @@ put_side-requires c =
       numbers_len = lent_size _ _ c.args.numbers.now w.2;
     }
 
-pub overflow_add-j : goal.overflow_add-j
-overflow_add-j c =
-    omega (arith, next _ _ _ _ c.requires.numbers_len c.next_positions-k.ensures c.loop-j-test.true)
+pub overflow_step-j : goal.overflow_step-j
+overflow_step-j c =
+    omega (arith, next _ _ _ _ c.requires.numbers_len c.min-k.ensures c.loop-j-test.true)
 
 pub loop-j-smaller : goal.loop-j-smaller
 loop-j-smaller c =
-    omega (arith, next _ _ _ _ c.requires.numbers_len c.next_positions-k.ensures c.loop-j-test.true)
+    omega (arith, next _ _ _ _ c.requires.numbers_len c.min-k.ensures c.loop-j-test.true)
 
 pub loop-j-preserved : goal.loop-j-preserved
 loop-j-preserved c =
     let a = c.requires in
     let l = c.loop-j.invariant in
-    let w = (next _ _ _ _ c.requires.numbers_len c.next_positions-k.ensures c.loop-j-test.true).1 in (
+    let w = (next _ _ _ _ a.numbers_len c.min-k.ensures c.loop-j-test.true).1 in
+    let k : 8 ≡ c.min-k.result = omega arith in
+    rw k (
       position_turn (cells-known a.in_layer a.numbers_len c.args.cells.now refl) _ l.0 w refl c.put_side.ensures.cells,
       position_turn (words-known a.in_layer a.numbers_len c.args.scales.now refl) _ l.1 w refl c.put_side.ensures.scales,
     )
@@ -121,4 +123,17 @@ returns c =
     record {
       cells = positions-done (cells-known a.in_layer a.numbers_len c.args.cells.now refl) l.0 (omega arith);
       scales = positions-done (words-known a.in_layer a.numbers_len c.args.scales.now refl) l.1 (omega arith);
+    }
+
+-- the last turn, which writes the positions that are left
+pub returns-2 : goal.returns-2
+returns-2 c =
+    let a = c.requires in
+    let l = c.loop-j.invariant in
+    let w = (next _ _ _ _ a.numbers_len c.min-k.ensures c.loop-j-test.true).1 in
+    let x = cells-known a.in_layer a.numbers_len c.args.cells.now refl in
+    let y = words-known a.in_layer a.numbers_len c.args.scales.now refl in
+    record {
+      cells = positions-done x (position_turn x _ l.0 w refl c.put_side.ensures.cells) (omega (arith, c.min-k.ensures));
+      scales = positions-done y (position_turn y _ l.1 w refl c.put_side.ensures.scales) (omega (arith, c.min-k.ensures));
     }

@@ -1,6 +1,5 @@
 -- The heads passed have their rows, and each turn lends the positions of one head.
 use native.Mathlib.Omega.{arith}
-use borrow.Author.Count.{falls}
 use Rattle.buffers.proofs.RunLaws.{cell_rows, scale_rows}
 use Rattle.buffers.proofs.LoopLaws.{cells_small, words_small, block_in, ends_size, no_heads, heads_done, head_turn}
 use Rattle.buffers.proofs.put_side.Goals as goal
@@ -132,9 +131,6 @@ put_rows-requires c =
       cell_size = ends_size _ k.cells_at;
       scale_size = ends_size _ k.words_at;
     }
-
-pub loop-h-smaller : goal.loop-h-smaller
-loop-h-smaller c = falls _ _ c.loop-h-test.true
 
 pub loop-h-preserved : goal.loop-h-preserved
 loop-h-preserved c =

@@ -1,5 +1,4 @@
 -- The heads passed have their rows, and each turn lends the positions of one head.
-use Prim.Native.Nat.{◌-◌}
 use Rattle.shapes.specs.Shape.{bytes_of, words_of}
 use Rattle.buffers.specs.Calls.{cell_row_of, scale_row}
 use Rattle.buffers.proofs.LoopLaws.{Heads}
@@ -9,6 +8,3 @@ abbrev pub invariant-loop-h : goal.invariant-loop-h
 invariant-loop-h l =
     Heads (bytes_of l.shape) l.shape l.layer l.side l.p l.n (cell_row_of l.shape l.numbers) l.initial.cells l.h l.cells
     × Heads (words_of l.shape) l.shape l.layer l.side l.p l.n (scale_row l.shape l.numbers) l.initial.scales l.h l.scales
-
-abbrev pub decreases-loop-h : goal.decreases-loop-h
-decreases-loop-h l = l.shape.heads - l.h
