@@ -9,7 +9,7 @@ use lib.ListN.{length, take, drop, replicate}
 use Rattle.lists.specs.Chunks.{part, joined, turns}
 use Rattle.lists.proofs.Part.{part_length}
 use Rattle.lists.proofs.At.{at_lent, at_length}
-use Rattle.lists.proofs.Joined.{joined_length, joined-replicate}
+use Rattle.lists.proofs.Joined.{joined-replicate}
 use Rattle.lists.proofs.Turns.{turns_next}
 use Rattle.shapes.specs.declared.Shape.{Shape}
 use Rattle.shapes.specs.Shape.{bytes_of, words_of, total}
@@ -18,9 +18,11 @@ use Rattle.places.specs.declared.Span.{Span}
 use Rattle.places.specs.Place.{row_of, place}
 use Rattle.places.specs.Span.{span_of}
 use Rattle.places.proofs.SpanLaws.{SpanIn, spanned, rows_small, span_in, span_size}
-use Rattle.buffers.specs.Fits.{InLayer}
+use Rattle.buffers.specs.declared.Side.{Side}
+use Rattle.buffers.specs.declared.Side.TheVariants.{Keys, Values}
+use Rattle.buffers.specs.Side.{side_number}
+use Rattle.buffers.specs.Fits.{InLayer, IsRoom}
 use Rattle.buffers.specs.Write.{put, written_side}
-use Rattle.buffers.proofs.WriteLaws.{SideRows}
 
 -- positions of head h, lent as `[from..to]` out of a buffer of so many elements
 pub record Ends (b : ℕ) (s : Shape) (l side h p n size from to : ℕ) : Type 0 where
@@ -54,7 +56,12 @@ pub record HeadIn (s : Shape) (l side h p n c w : ℕ) (first : Span) (cells sca
   pub cells_at : let d = h * (s.capacity * c) in Ends (bytes_of s) s l side h p n cells (first.cells_from + d) (first.cells_to + d)
   pub words_at : let d = h * (s.capacity * w) in Ends (words_of s) s l side h p n scales (first.scales_from + d) (first.scales_to + d)
 
-module _ {s : Shape} {l side p n cells scales : ℕ} (k : InLayer s l side p n cells scales) where
+-- a side is the keys' or the values'
+pub side_below : (x : Side) → side_number x < 2
+side_below Keys = omega arith
+side_below Values = omega arith
+
+module _ {s : Shape} {l p n : ℕ} (k : InLayer s l p n) where
   limited : Limits s
   limited = limits_facts s k.in-limits
 
@@ -66,16 +73,16 @@ module _ {s : Shape} {l side p n cells scales : ℕ} (k : InLayer s l side p n c
   words_small e = rw e (mul-le-mul limited.capacity_in.1 (scale-words_most s limited))
 
   -- each head has the positions, and the offsets of the first are all that is asked for
-  head-span : {h : ℕ} → h < s.heads → SpanIn s l side h p n
-  head-span w = record { in-limits = k.in-limits; layer_in = k.layer_in; side_in = k.side_in; head_in = w; span = k.span }
+  head-span : {side h : ℕ} → side < 2 → h < s.heads → SpanIn s l side h p n
+  head-span u w = record { in-limits = k.in-limits; layer_in = k.layer_in; side_in = u; head_in = w; span = k.span }
 
-  pub block_in : {h c w x y : ℕ} {first : Span} → h < s.heads → first ≡ span_of s l side 0 p n → c ≡ bytes_of s → w ≡ words_of s → x ≡ cells → y ≡ scales
-      → HeadIn s l side h p n c w first x y
-  block_in v e c w x y =
-      let first = e ∙ spanned (head-span limited.heads_in.0) in
+  pub block_in : {side h c w x y cells scales : ℕ} {first : Span} → side < 2 → IsRoom s cells scales → h < s.heads → first ≡ span_of s l side 0 p n → c ≡ bytes_of s
+      → w ≡ words_of s → x ≡ cells → y ≡ scales → HeadIn s l side h p n c w first x y
+  block_in u r v e c w x y =
+      let first = e ∙ spanned (head-span u limited.heads_in.0) in
       record {
-        cells_at = head_ends (bytes_of s) (head-span v) (cell_bytes_most s limited) (x ∙ k.cell_size) (rw first) (rw first) c;
-        words_at = head_ends (words_of s) (head-span v) (scale-words_most s limited) (y ∙ k.scale_size) (rw first) (rw first) w;
+        cells_at = head_ends (bytes_of s) (head-span u v) (cell_bytes_most s limited) (x ∙ r.cell_size) (rw first) (rw first) c;
+        words_at = head_ends (words_of s) (head-span u v) (scale-words_most s limited) (y ∙ r.scale_size) (rw first) (rw first) w;
       }
 
 -- a loop over the heads of a side: out is buf with the rows of the first h of them
@@ -95,14 +102,13 @@ module _ {b : ℕ} {s : Shape} {l side p n : ℕ} {rows : ℕ → ℕ → List �
     heads_done w = let e : h ≡ s.heads = omega (arith, o.passed) in o.result ∙ rw e
 
     -- the turn: the positions of head h came back as y
-    pub head_turn : {from to : ℕ} {y : List ℕ} → SideRows b s n rows → h < s.heads → Ends b s l side h p n (length out) from to
-        → y ≡ joined n (rows h)
+    pub head_turn : {from to : ℕ} {y : List ℕ} → length y ≡ n * b → h < s.heads → Ends b s l side h p n (length out) from to → y ≡ joined n (rows h)
         → Heads b s l side p n rows buf (h + 1) (take from out ++ (y ++ drop (to - from) (drop from out)))
     unfolding put
     head_turn {from} sized w e q =
         let f : List ℕ → List ℕ = λ _. joined n (rows h) in
         let came = at_lent from (n * b) f out e.count q in
-        let same = at_length from (n * b) f out (λ x u. joined_length b n (rows h) (sized h w)) (omega (arith, e.count, e.inside)) in
+        let same = at_length from (n * b) f out (λ x u. rw q at sized) (omega (arith, e.count, e.inside)) in
         record {
           passed = omega arith;
           result = turns_next h (λ i. put b s l side i p n (rows i)) buf o.result (came ∙ rw e.start);
@@ -117,6 +123,5 @@ ends_size {b} {n = n} {from = from} {to = to} out e =
     part_length from (to - from) out (omega (arith, e.count, e.inside)) ∙ d
 
 -- zeros are rows of zeros
-pub zeros_lent : {b : ℕ} {s : Shape} {l side h p n from to : ℕ} (out : List ℕ) {y : List ℕ} → Ends b s l side h p n (length out) from to
-    → y ≡ replicate (length (part from (to - from) out)) 0 → y ≡ joined n (λ i. replicate b 0)
-zeros_lent {b} {n = n} out e q = q ∙ rw (ends_size out e, joined-replicate {A = ℕ} b n 0)
+pub zero_rows : (b n : ℕ) (x : List ℕ) {y : List ℕ} → length x ≡ n * b → y ≡ replicate (length x) 0 → y ≡ joined n (λ i. replicate b 0)
+zero_rows b n x e q = q ∙ rw (e, joined-replicate {A = ℕ} b n 0)

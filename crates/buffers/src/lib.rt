@@ -1,7 +1,7 @@
 // Buffers: rows of numbers in both buffers, appended to a layer and removed from it. The caller says how many positions the layer has.
 #![tactic(auto)]
 
-ghost use Rattle.std.specs.Prelude.{◌≡◌, ◌&&◌, ◌*◌, min, length, replicate};
+ghost use Rattle.std.specs.Prelude.{◌≡◌, ◌&&◌, ℕ, ◌+◌, ◌*◌, ◌≤◌, ◌<◌, List, length, replicate};
 ghost use Rattle.lists.specs.Chunks.{joined};
 ghost use Rattle.replies.specs.Tried.{tells};
 ghost use Rattle.shapes.specs.Buffers.{buffers};
@@ -9,7 +9,9 @@ ghost use Rattle.shapes.specs.Shape.{bytes_of, words_of, width, within, exact};
 ghost use Rattle.rows.specs.Row.{row_cells, row_scales};
 ghost use Rattle.buffers.specs.Write.{written_side, zeros};
 ghost use Rattle.buffers.specs.Calls.{head_numbers, cell_row_of, scale_row, append_rows_of, remove_rows_of};
-ghost use Rattle.buffers.specs.Fits.{InLayer, HeadRows};
+ghost use Rattle.buffers.specs.Fits.{InLayer, IsRoom, HeadRows};
+ghost use Rattle.buffers.specs.Heads.{AcceptsHead, LeavesHead};
+ghost use Rattle.buffers.specs.Side.{side_number};
 
 use encode::put_row;
 use places::span_of;
@@ -48,8 +50,14 @@ pub fn append_rows(
     if !(fits & whole) {
         return false;
     }
-    put_positions(shape, layer, 0, len as usize, n, keys, cells, scales);
-    put_positions(shape, layer, 1, len as usize, n, values, cells, scales);
+    let run = Run {
+        shape,
+        layer,
+        p: len as usize,
+        n,
+    };
+    run.put(Side::Keys, keys, cells, scales);
+    run.put(Side::Values, values, cells, scales);
     true
 }
 
@@ -70,9 +78,14 @@ pub fn remove_rows(
         return false;
     }
     if t < len {
-        let n = (len - t) as usize;
-        clear_side(shape, layer, 0, t as usize, n, cells, scales);
-        clear_side(shape, layer, 1, t as usize, n, cells, scales);
+        let run = Run {
+            shape,
+            layer,
+            p: t as usize,
+            n: (len - t) as usize,
+        };
+        run.clear(Side::Keys, cells, scales);
+        run.clear(Side::Values, cells, scales);
     }
     true
 }
@@ -84,94 +97,112 @@ fn has_room(shape: Shape, cells: usize, scales: usize) -> bool
     number(room_reply(shape, cells, scales)) == 0
 }
 
-// Eight positions at a time, since their numbers lie side by side: memory is read nearly in its order.
-fn put_positions(
+// The two sides of a layer.
+#[derive(Clone, Copy)]
+enum Side {
+    Keys,
+    Values,
+}
+
+impl Side {
+    fn number(self) -> u32
+        ensures { result ≡ side_number self }
+    {
+        match self {
+            Side::Keys => 0,
+            Side::Values => 1,
+        }
+    }
+}
+
+// The positions `p` to `p + n - 1` of a layer, which the shape has.
+#[derive(Clone, Copy)]
+struct Run {
     shape: Shape,
     layer: u32,
-    side: u32,
     p: usize,
     n: usize,
-    numbers: &[u32],
-    cells: &mut [u8],
-    scales: &mut [u32],
-)
-    requires in_layer { InLayer shape layer side p n (length cells.old) (length scales.old) }
-    requires numbers_len { length numbers.now ≡ n * width shape }
-    ensures cells { cells.new ≡ written_side (bytes_of shape) shape layer side p n (cell_row_of shape numbers.now) cells.old }
-    ensures scales { scales.new ≡ written_side (words_of shape) shape layer side p n (scale_row shape numbers.now) scales.old }
-{
-    let width = shape.heads as usize * shape.head_size as usize;
-    for j in (0..n).step_by(8) {
-        let k = (n - j).min(8);
-        let a = j * width;
-        put_side(
-            shape,
-            layer,
+    ghost inside: { InLayer shape layer p n },
+}
+
+impl Run {
+    // Eight positions at a time, since their numbers lie side by side: memory is read nearly in its order.
+    fn put(self, side: Side, numbers: &[u32], cells: &mut [u8], scales: &mut [u32])
+        requires room { IsRoom self.shape (length cells.old) (length scales.old) }
+        requires numbers_len { length numbers.now ≡ self.n * width self.shape }
+        ensures cells { cells.new ≡ written_side (bytes_of self.shape) self.shape self.layer (side_number side) self.p self.n (cell_row_of self.shape numbers.now) cells.old }
+        ensures scales { scales.new ≡ written_side (words_of self.shape) self.shape self.layer (side_number side) self.p self.n (scale_row self.shape numbers.now) scales.old }
+    {
+        let width = self.shape.heads as usize * self.shape.head_size as usize;
+        for j in (0..self.n).step_by(8) {
+            let k = (self.n - j).min(8);
+            let a = j * width;
+            let next = Run {
+                shape: self.shape,
+                layer: self.layer,
+                p: self.p + j,
+                n: k,
+            };
+            next.put_heads(side, &numbers[a..a + k * width], cells, scales);
+        }
+    }
+
+    // Rows of numbers in each head.
+    fn put_heads(self, side: Side, numbers: &[u32], cells: &mut [u8], scales: &mut [u32])
+        requires room { IsRoom self.shape (length cells.old) (length scales.old) }
+        requires numbers_len { length numbers.now ≡ self.n * width self.shape }
+        ensures cells { cells.new ≡ written_side (bytes_of self.shape) self.shape self.layer (side_number side) self.p self.n (cell_row_of self.shape numbers.now) cells.old }
+        ensures scales { scales.new ≡ written_side (words_of self.shape) self.shape self.layer (side_number side) self.p self.n (scale_row self.shape numbers.now) scales.old }
+    {
+        self.each_head(side, cells, scales, |h, cells, scales| {
+            put_rows(self.shape, h, self.n, numbers, cells, scales)
+        });
+    }
+
+    // Zeros in each head.
+    fn clear(self, side: Side, cells: &mut [u8], scales: &mut [u32])
+        requires { IsRoom self.shape (length cells.old) (length scales.old) }
+        ensures cells { cells.new ≡ written_side (bytes_of self.shape) self.shape self.layer (side_number side) self.p self.n (zeros (bytes_of self.shape) (side_number side)) cells.old }
+        ensures scales { scales.new ≡ written_side (words_of self.shape) self.shape self.layer (side_number side) self.p self.n (zeros (words_of self.shape) (side_number side)) scales.old }
+    {
+        self.each_head(
             side,
-            p + j,
-            k,
-            &numbers[a..a + k * width],
             cells,
             scales,
+            |_, cells, scales| clear_all(cells, scales),
         );
     }
-}
 
-// Rows in each head of a side: head after head, a block further in both buffers.
-fn put_side(
-    shape: Shape,
-    layer: u32,
-    side: u32,
-    p: usize,
-    n: usize,
-    numbers: &[u32],
-    cells: &mut [u8],
-    scales: &mut [u32],
-)
-    requires in_layer { InLayer shape layer side p n (length cells.old) (length scales.old) }
-    requires numbers_len { length numbers.now ≡ n * width shape }
-    ensures cells { cells.new ≡ written_side (bytes_of shape) shape layer side p n (cell_row_of shape numbers.now) cells.old }
-    ensures scales { scales.new ≡ written_side (words_of shape) shape layer side p n (scale_row shape numbers.now) scales.old }
-{
-    let first = span_of(shape, layer, side, 0, p, n);
-    let c = shape.capacity as usize * cell_bytes(shape.format, shape.head_size);
-    let w = shape.capacity as usize * scale_words(shape.format, shape.head_size);
-    for h in 0..shape.heads as usize {
-        let a = h * c;
-        let b = h * w;
-        put_rows(
-            shape,
-            h,
-            n,
-            numbers,
-            &mut cells[first.cells_from + a..first.cells_to + a],
-            &mut scales[first.scales_from + b..first.scales_to + b],
-        );
-    }
-}
-
-// Zeros in each head of a side, by the same offsets.
-fn clear_side(
-    shape: Shape,
-    layer: u32,
-    side: u32,
-    p: usize,
-    n: usize,
-    cells: &mut [u8],
-    scales: &mut [u32],
-)
-    requires { InLayer shape layer side p n (length cells.old) (length scales.old) }
-    ensures cells { cells.new ≡ written_side (bytes_of shape) shape layer side p n (zeros (bytes_of shape) side) cells.old }
-    ensures scales { scales.new ≡ written_side (words_of shape) shape layer side p n (zeros (words_of shape) side) scales.old }
-{
-    let first = span_of(shape, layer, side, 0, p, n);
-    let c = shape.capacity as usize * cell_bytes(shape.format, shape.head_size);
-    let w = shape.capacity as usize * scale_words(shape.format, shape.head_size);
-    for h in 0..shape.heads as usize {
-        let a = h * c;
-        let b = h * w;
-        cells[first.cells_from + a..first.cells_to + a].fill(0);
-        scales[first.scales_from + b..first.scales_to + b].fill(0);
+    // Lends `write` the positions in each head: head after head, a block further in both buffers.
+    fn each_head<F: Fn(usize, &mut [u8], &mut [u32])>(
+        self,
+        side: Side,
+        cells: &mut [u8],
+        scales: &mut [u32],
+        write: F,
+    )
+        requires room { IsRoom self.shape (length cells.old) (length scales.old) }
+        requires accepts { (h : ℕ) → h < self.shape.heads
+            → AcceptsHead F.Fn write h (self.n * bytes_of self.shape) (self.n * words_of self.shape) }
+        ensures { (rows rows' : ℕ → ℕ → List ℕ)
+            → ((h : ℕ) → h < self.shape.heads
+            → LeavesHead F.Fn write h (self.n * bytes_of self.shape) (self.n * words_of self.shape)
+            (joined self.n (rows h)) (joined self.n (rows' h)))
+            → (cells.new ≡ written_side (bytes_of self.shape) self.shape self.layer (side_number side) self.p self.n rows cells.old)
+            × (scales.new ≡ written_side (words_of self.shape) self.shape self.layer (side_number side) self.p self.n rows' scales.old) }
+    {
+        let first = span_of(self.shape, self.layer, side.number(), 0, self.p, self.n);
+        let c = self.shape.capacity as usize * cell_bytes(self.shape.format, self.shape.head_size);
+        let w = self.shape.capacity as usize * scale_words(self.shape.format, self.shape.head_size);
+        for h in 0..self.shape.heads as usize {
+            let a = h * c;
+            let b = h * w;
+            write(
+                h,
+                &mut cells[first.cells_from + a..first.cells_to + a],
+                &mut scales[first.scales_from + b..first.scales_to + b],
+            );
+        }
     }
 }
 
