@@ -223,6 +223,7 @@ fn put_rows(shape: Shape, h: usize, n: usize, numbers: &[u32], cells: &mut [u8],
 }
 
 // Row after row, in the shape's format.
+#[tactic(auto, using(crate::proofs::HeadLaws::rows_there))]
 fn put_rows_in(
     format: u32,
     shape: Shape,
