@@ -5,7 +5,8 @@ ghost use Rattle.std.specs.Prelude.{◌≡◌, ◌&&◌, ℕ, ◌+◌, ◌*◌, 
 ghost use Rattle.lists.specs.Chunks.{joined};
 ghost use Rattle.replies.specs.Tried.{tells};
 ghost use Rattle.shapes.specs.Buffers.{buffers};
-ghost use Rattle.shapes.specs.Shape.{bytes_of, words_of, width, within, exact};
+ghost use Rattle.shapes.specs.Shape.{bytes_of, words_of, width, cell_total, scale_total, within, exact};
+ghost use Rattle.places.specs.Span.{span_at, span_of};
 ghost use Rattle.rows.specs.Row.{row_cells, row_scales};
 ghost use Rattle.buffers.specs.Write.{written_side, zeros};
 ghost use Rattle.buffers.specs.Calls.{head_numbers, cell_row_of, scale_row, append_rows_of, remove_rows_of};
@@ -14,7 +15,7 @@ ghost use Rattle.buffers.specs.Heads.{AcceptsHead, LeavesHead};
 ghost use Rattle.buffers.specs.Side.{side_number};
 
 use encode::put_row;
-use places::span_of;
+use places::{Span, span_of};
 use replies::number;
 use shapes::{Shape, cell_bytes, room_reply, scale_words};
 
@@ -106,7 +107,8 @@ enum Side {
 
 impl Side {
     fn number(self) -> u32
-        ensures { result ≡ side_number self }
+        ensures value { result ≡ side_number self }
+        ensures below { result < 2 }
     {
         match self {
             Side::Keys => 0,
@@ -191,17 +193,37 @@ impl Run {
             → (cells.new ≡ written_side (bytes_of self.shape) self.shape self.layer (side_number side) self.p self.n rows cells.old)
             × (scales.new ≡ written_side (words_of self.shape) self.shape self.layer (side_number side) self.p self.n rows' scales.old) }
     {
-        let first = span_of(self.shape, self.layer, side.number(), 0, self.p, self.n);
-        let c = self.shape.capacity as usize * cell_bytes(self.shape.format, self.shape.head_size);
-        let w = self.shape.capacity as usize * scale_words(self.shape.format, self.shape.head_size);
+        let side = side.number();
+        let first = span_of(self.shape, self.layer, side, 0, self.p, self.n);
         for h in 0..self.shape.heads as usize {
-            let a = h * c;
-            let b = h * w;
+            let span = self.head(side, first, h);
             write(
                 h,
-                &mut cells[first.cells_from + a..first.cells_to + a],
-                &mut scales[first.scales_from + b..first.scales_to + b],
+                &mut cells[span.cells_from..span.cells_to],
+                &mut scales[span.scales_from..span.scales_to],
             );
+        }
+    }
+
+    // Where the positions lie in head `h`: a block further for each head than in the first.
+    #[tactic(auto, using(crate::proofs::LoopLaws::cells_fit, crate::proofs::LoopLaws::words_fit))]
+    fn head(self, side: u32, first: Span, h: usize) -> Span
+        requires side_in { side < 2 }
+        requires first { first ≡ span_of self.shape self.layer side 0 self.p self.n }
+        requires there { h < self.shape.heads }
+        ensures value { result ≡ span_at self.shape self.layer side h self.p self.n }
+        ensures cells { (result.cells_from ≤ result.cells_to) × (result.cells_to ≤ cell_total self.shape) }
+        ensures scales { (result.scales_from ≤ result.scales_to) × (result.scales_to ≤ scale_total self.shape) × (result.scales_to ≤ 68719476736) }
+    {
+        let c = self.shape.capacity as usize * cell_bytes(self.shape.format, self.shape.head_size);
+        let w = self.shape.capacity as usize * scale_words(self.shape.format, self.shape.head_size);
+        let a = h * c;
+        let b = h * w;
+        Span {
+            cells_from: first.cells_from + a,
+            cells_to: first.cells_to + a,
+            scales_from: first.scales_from + b,
+            scales_to: first.scales_to + b,
         }
     }
 }

@@ -13,7 +13,7 @@ use Rattle.shapes.specs.Shape.{bytes_of, words_of, width}
 use Rattle.shapes.proofs.ShapeLaws.{width_in}
 use Rattle.rows.specs.Row.{row_cells, row_scales}
 use Rattle.buffers.specs.Fits.{InLayer, IsRoom}
-use Rattle.buffers.proofs.LoopLaws.{side_below}
+use Rattle.buffers.proofs.LoopLaws.{side_below, room_kept}
 use Rattle.buffers.proofs.RunLaws.{cell_rows, scale_rows}
 use Rattle.buffers.proofs.PositionLaws.{Known, no_positions, position_turn, positions-done}
 use Rattle.buffers.proofs.Run.put.Goals as goal
@@ -91,11 +91,7 @@ pub put_heads-requires : goal.put_heads-requires
 put_heads-requires c =
     let w = next _ _ _ _ c.requires.numbers_len c.min-k.ensures c.loop-j-test.true in
     record {
-      room =
-          record {
-            cell_size = c.loop-j.auto.cells ∙ c.requires.room.cell_size;
-            scale_size = c.loop-j.auto.scales ∙ c.requires.room.scale_size;
-          };
+      room = room_kept c.requires.room c.loop-j.auto.cells c.loop-j.auto.scales;
       numbers_len = lent_size _ _ c.args.numbers.now w.2;
     }
 
