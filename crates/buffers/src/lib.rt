@@ -129,6 +129,7 @@ struct Run {
 
 impl Run {
     // Eight positions at a time, since their numbers lie side by side: memory is read nearly in its order.
+    #[tactic(auto, using(crate::proofs::PositionLaws::next_in))]
     fn put(self, side: Side, numbers: &[u32], cells: &mut [u8], scales: &mut [u32])
         requires room { IsRoom self.shape (length cells.old) (length scales.old) }
         requires numbers_len { length numbers.now ≡ self.n * width self.shape }
@@ -240,7 +241,7 @@ fn put_rows(shape: Shape, h: usize, n: usize, numbers: &[u32], cells: &mut [u8],
         1 => put_rows_in(1, shape, h, n, numbers, cells, scales),
         2 => put_rows_in(2, shape, h, n, numbers, cells, scales),
         3 => put_rows_in(3, shape, h, n, numbers, cells, scales),
-        _ => put_rows_in(format, shape, h, n, numbers, cells, scales),
+        _ => unreachable!(),
     }
 }
 

@@ -2,8 +2,6 @@
 use mathlib.Core.Path.{◌≡◌, refl, ◌∙◌}
 use mathlib.Core.List.{List}
 use Prim.Native.Nat.{ℕ, ◌+◌, ◌-◌, ◌*◌, ◌≤◌, ◌<◌}
-use native.Mathlib.Nat.{le-add_right, add-mul, mul-le-mul_right}
-use Rattle.std.proofs.Common.{min}
 use native.Mathlib.Omega.{arith}
 use lib.ListN.{length}
 use Rattle.lists.specs.Chunks.{part}
@@ -15,7 +13,7 @@ use Rattle.rows.specs.Row.{row_cells, row_scales}
 use Rattle.buffers.specs.Fits.{InLayer, IsRoom}
 use Rattle.buffers.proofs.LoopLaws.{side_below, room_kept}
 use Rattle.buffers.proofs.RunLaws.{cell_rows, scale_rows}
-use Rattle.buffers.proofs.PositionLaws.{Known, no_positions, position_turn, positions-done}
+use Rattle.buffers.proofs.PositionLaws.{next_in, Known, no_positions, position_turn, positions-done}
 use Rattle.buffers.proofs.Run.put.Goals as goal
 
 -- what the loop knows of each buffer
@@ -29,12 +27,6 @@ module _ {s : Shape} {l side p n cells scales : ℕ} (k : InLayer s l p n) (u : 
   words-known x e =
       let sized = scale_rows _ _ k.in-limits _ q in
       record { for = record { layer = k.layer_in; side_in = u; span = k.span; sized = sized }; whole = e ∙ r.scale_size }
-
--- some positions are written next, of those that are left, and their numbers lie in the slice
-next : (j k n w : ℕ) {m : ℕ} → m ≡ n * w → k ≡ min (n - j) 8 → j < n → (0 < k) × (j + k ≤ n) × (j * w + k * w ≤ m)
-next j k n w q e v =
-    let u : j + k ≤ n = omega arith in
-    (omega arith, u, rw (q, ← add-mul j k w) (mul-le-mul_right w u))
 
 -- the numbers that are lent are as many as that
 lent_size : (a b : ℕ) (numbers : List ℕ) → a + b ≤ length numbers → length (part a (a + b - a) numbers) ≡ b
@@ -52,62 +44,25 @@ loop-j-init c =
       no_positions _ _ _ _ _ _ (row_scales a.self.shape.format) a.numbers.now _,
     )
 
-pub overflow_mul-a : goal.overflow_mul-a
-overflow_mul-a c =
-    omega (arith, next _ _ _ _ c.requires.numbers_len c.min-k.ensures c.loop-j-test.true, c.args.self.inside.span)
-
-pub overflow_add-next : goal.overflow_add-next
-overflow_add-next c =
-    omega (arith, next _ _ _ _ c.requires.numbers_len c.min-k.ensures c.loop-j-test.true, c.args.self.inside.span)
-
-pub overflow_mul-k : goal.overflow_mul-k
-overflow_mul-k c =
-    omega (arith, next _ _ _ _ c.requires.numbers_len c.min-k.ensures c.loop-j-test.true, c.args.self.inside.span)
-
-pub overflow_add-a : goal.overflow_add-a
-overflow_add-a c =
-    omega (arith, next _ _ _ _ c.requires.numbers_len c.min-k.ensures c.loop-j-test.true, c.args.self.inside.span)
-
-pub offset_bounds-numbers-a : goal.offset_bounds-numbers-a
-offset_bounds-numbers-a c =
-    omega (arith, next _ _ _ _ c.requires.numbers_len c.min-k.ensures c.loop-j-test.true, c.args.self.inside.span)
-
-pub slice_bounds-put_heads-count : goal.slice_bounds-put_heads-count
-slice_bounds-put_heads-count c = le-add_right _ _
-
-pub slice_bounds-put_heads-start : goal.slice_bounds-put_heads-start
-slice_bounds-put_heads-start c = le-add_right _ _
-
-pub slice_bounds-put_heads-end : goal.slice_bounds-put_heads-end
-slice_bounds-put_heads-end c = (next _ _ _ _ c.requires.numbers_len c.min-k.ensures c.loop-j-test.true).2
-
 pub invariant_of-next : goal.invariant_of-next
 invariant_of-next c =
     let a = c.args.self.inside in
-    let w = next _ _ _ _ c.requires.numbers_len c.min-k.ensures c.loop-j-test.true in
+    let w = next_in c.requires.numbers_len c.min-k.ensures c.loop-j-test.true in
     record { inside = record { in-limits = a.in-limits; layer_in = a.layer_in; span = omega (arith, a.span, w) } }
 
 pub put_heads-requires : goal.put_heads-requires
 put_heads-requires c =
-    let w = next _ _ _ _ c.requires.numbers_len c.min-k.ensures c.loop-j-test.true in
+    let w = next_in c.requires.numbers_len c.min-k.ensures c.loop-j-test.true in
     record {
       room = room_kept c.requires.room c.loop-j.auto.cells c.loop-j.auto.scales;
-      numbers_len = lent_size _ _ c.args.numbers.now w.2;
+      numbers_len = lent_size _ _ c.args.numbers.now w.numbers_in;
     }
-
-pub overflow_step-j : goal.overflow_step-j
-overflow_step-j c =
-    omega (arith, next _ _ _ _ c.requires.numbers_len c.min-k.ensures c.loop-j-test.true)
-
-pub loop-j-smaller : goal.loop-j-smaller
-loop-j-smaller c =
-    omega (arith, next _ _ _ _ c.requires.numbers_len c.min-k.ensures c.loop-j-test.true)
 
 pub loop-j-preserved : goal.loop-j-preserved
 loop-j-preserved c =
     let a = c.requires in
     let l = c.loop-j.invariant in
-    let w = (next _ _ _ _ a.numbers_len c.min-k.ensures c.loop-j-test.true).1 in
+    let w = (next_in a.numbers_len c.min-k.ensures c.loop-j-test.true).passed in
     let k : 8 ≡ c.min-k.result = omega arith in
     rw k (
       position_turn (cells-known c.args.self.inside (side_below c.args.side) a.room a.numbers_len c.args.cells.now refl) _ l.0 w refl c.put_heads.ensures.cells,
@@ -128,10 +83,13 @@ pub returns-2 : goal.returns-2
 returns-2 c =
     let a = c.requires in
     let l = c.loop-j.invariant in
-    let w = (next _ _ _ _ a.numbers_len c.min-k.ensures c.loop-j-test.true).1 in
+    let w = (next_in a.numbers_len c.min-k.ensures c.loop-j-test.true).passed in
     let x = cells-known c.args.self.inside (side_below c.args.side) a.room a.numbers_len c.args.cells.now refl in
     let y = words-known c.args.self.inside (side_below c.args.side) a.room a.numbers_len c.args.scales.now refl in
     record {
       cells = positions-done x (position_turn x _ l.0 w refl c.put_heads.ensures.cells) (omega (arith, c.min-k.ensures));
       scales = positions-done y (position_turn y _ l.1 w refl c.put_heads.ensures.scales) (omega (arith, c.min-k.ensures));
     }
+
+pub slice_bounds-put_heads-end : goal.slice_bounds-put_heads-end
+slice_bounds-put_heads-end c = (next_in c.requires.numbers_len c.min-k.ensures c.loop-j-test.true).numbers_in
