@@ -196,8 +196,10 @@ impl Run {
     {
         let side = side.number();
         let first = span_of(self.shape, self.layer, side, 0, self.p, self.n);
+        let c = cell_bytes(self.shape.format, self.shape.head_size);
+        let w = scale_words(self.shape.format, self.shape.head_size);
         for h in 0..self.shape.heads as usize {
-            let span = self.head(side, first, h);
+            let span = self.head(side, first, c, w, h);
             write(
                 h,
                 &mut cells[span.cells_from..span.cells_to],
@@ -206,20 +208,20 @@ impl Run {
         }
     }
 
-    // Where the positions lie in head `h`: a block further for each head than in the first.
+    // Where the positions lie in head `h`: a block further for each head than in the first, where rows have `c` and `w` elements.
     #[tactic(auto, using(crate::proofs::LoopLaws::cells_fit, crate::proofs::LoopLaws::words_fit))]
-    fn head(self, side: u32, first: Span, h: usize) -> Span
+    fn head(self, side: u32, first: Span, c: usize, w: usize, h: usize) -> Span
         requires side_in { side < 2 }
         requires first { first ≡ span_of self.shape self.layer side 0 self.p self.n }
+        requires c { c ≡ bytes_of self.shape }
+        requires w { w ≡ words_of self.shape }
         requires there { h < self.shape.heads }
         ensures value { result ≡ span_at self.shape self.layer side h self.p self.n }
         ensures cells { (result.cells_from ≤ result.cells_to) × (result.cells_to ≤ cell_total self.shape) }
         ensures scales { (result.scales_from ≤ result.scales_to) × (result.scales_to ≤ scale_total self.shape) × (result.scales_to ≤ 68719476736) }
     {
-        let c = self.shape.capacity as usize * cell_bytes(self.shape.format, self.shape.head_size);
-        let w = self.shape.capacity as usize * scale_words(self.shape.format, self.shape.head_size);
-        let a = h * c;
-        let b = h * w;
+        let a = h * (self.shape.capacity as usize * c);
+        let b = h * (self.shape.capacity as usize * w);
         Span {
             cells_from: first.cells_from + a,
             cells_to: first.cells_to + a,
