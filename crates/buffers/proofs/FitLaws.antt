@@ -3,7 +3,7 @@
 use mathlib.Core.Path.{◌≡◌, refl, ◌∙◌}
 use mathlib.Core.Bool.{Bool, true, false, ◌&&◌}
 use mathlib.Core.List.{List}
-use Prim.Native.Nat.{ℕ, ◌+◌, ◌≤◌, ◌<◌}
+use Prim.Native.Nat.{ℕ, ◌+◌, ◌≤◌}
 use native.Mathlib.Omega.{arith}
 use lib.Dec.{ltb, leb}
 use lib.ListN.{length}
@@ -16,7 +16,7 @@ use Rattle.shapes.specs.Shape.{bytes_of, words_of, limits, within, exact}
 use Rattle.shapes.proofs.ShapeLaws.{within-limits, exact_sizes}
 use Rattle.buffers.specs.Write.{written_side, written}
 use Rattle.buffers.specs.Calls.{layer_fits_of}
-use Rattle.buffers.specs.Fits.{InLayer}
+use Rattle.buffers.specs.Fits.{InLayer, IsRoom}
 
 regrouped : (w e r : Bool) → ((w && e) && r) ≡ (w && (e && r))
 regrouped true e r = refl
@@ -37,22 +37,25 @@ module _ (s : Shape) (l most : ℕ) (b : Buffers) where
   pub layer_left : (within s && sizes) ≡ true → there ≡ layer_fits_of s l most b
   layer_left e = rw e at layer_fits
 
-  pub in-layer : layer_fits_of s l most b ≡ true → {side p n cells scales : ℕ} → side < 2 → p + n ≤ most → cells ≡ length b.cells → scales ≡ length b.scales
-      → InLayer s l side p n cells scales
+  -- past the test: positions of the layer, in whole buffers
+  pub in-layer : layer_fits_of s l most b ≡ true → {p n : ℕ} → p + n ≤ most → InLayer s l p n
   unfolding layer_fits_of
-  in-layer t w span c d =
+  in-layer t span =
       let x = both (within s) (sizes && there) t in
       let y = both sizes there x.1 in
       let z = both (ltb l s.layers) (leb most s.capacity) y.1 in
-      let e = exact_sizes s (length b.cells) (length b.scales) y.0 in
       record {
         in-limits = within-limits s x.0;
         layer_in = ltb-true l s.layers z.0;
-        side_in = w;
         span = omega (arith, leb-true most s.capacity z.1);
-        cell_size = c ∙ e.0;
-        scale_size = d ∙ e.1;
       }
+
+  pub has-room : layer_fits_of s l most b ≡ true → {cells scales : ℕ} → cells ≡ length b.cells → scales ≡ length b.scales → IsRoom s cells scales
+  unfolding layer_fits_of
+  has-room t c d =
+      let x = both (within s) (sizes && there) t in
+      let e = exact_sizes s (length b.cells) (length b.scales) (both sizes there x.1).0 in
+      record { cell_size = c ∙ e.0; scale_size = d ∙ e.1 }
 
 pub room_limits : (s : Shape) (cells scales : ℕ) → (within s && exact s cells scales) ≡ true → limits s ≡ true
 room_limits s cells scales t = within-limits s (both (within s) (exact s cells scales) t).0

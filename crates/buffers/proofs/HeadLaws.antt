@@ -7,8 +7,8 @@ use Prim.Native.Nat.{ℕ, ◌+◌, ◌-◌, ◌*◌, ◌≤◌, ◌<◌}
 use native.Mathlib.Omega.{arith}
 use lib.ListN.{length, take, drop}
 use Rattle.lists.specs.Chunks.{part, joined}
-use Rattle.lists.proofs.Part.{lent_count, part_length}
-use Rattle.lists.proofs.Loop.{Chunked, Passed, chunk_in, chunk_turn, over, over_done}
+use Rattle.lists.proofs.Part.{room, lent_count, part_length}
+use Rattle.lists.proofs.Loop.{Chunked, Passed, chunk_turn, over, over_done}
 use Rattle.replies.specs.Tried.{tells}
 use Rattle.shapes.specs.declared.Shape.{Shape}
 use Rattle.shapes.specs.Buffers.{buffers}
@@ -39,6 +39,15 @@ pub record RowIn (s : Shape) (h c w i numbers cells scales : ℕ) : Type 0 where
   pub cells_in : i * c + c ≤ cells
   pub words_in : i * w + w ≤ scales
 
+pub rows_there : {s : Shape} {format h n c w i numbers cells scales : ℕ} → format ≡ s.format → HeadRows s h n numbers cells scales
+    → c ≡ cell_bytes_of format (head_size_of s) → w ≡ scale_words_of format (head_size_of s) → i < n → RowIn s h c w i numbers cells scales
+rows_there {s} e f q o v =
+    record {
+      run_in = rw f.numbers_size (numbers_in s v f.head);
+      cells_in = rw (f.cell_size, q, e) (room _ v);
+      words_in = rw (f.scale_size, o, e) (room _ v);
+    }
+
 module _ {s : Shape} {format h n c w : ℕ} {numbers cells scales : List ℕ} (k : RowsPassed s format h n c w numbers cells scales) where
   abbrev cells_of : ℕ → List ℕ
   cells_of i = row_cells format (head_numbers s numbers h i)
@@ -56,13 +65,8 @@ module _ {s : Shape} {format h n c w : ℕ} {numbers cells scales : List ℕ} (k
       let f = k.fits in
       rw (k.scale-row, k.named) (over (scale_rows s n f.in-limits numbers f.numbers_size h f.head) f.scale_size)
 
-  pub row_there : {i : ℕ} → i < n → RowIn s h c w i (length numbers) (length cells) (length scales)
-  row_there v =
-      record {
-        run_in = rw k.fits.numbers_size (numbers_in s v k.fits.head);
-        cells_in = chunk_in in_cells v;
-        words_in = chunk_in in_scales v;
-      }
+  row_there : {i : ℕ} → i < n → RowIn s h c w i (length numbers) (length cells) (length scales)
+  row_there v = rows_there k.named k.fits k.cell_row k.scale-row v
 
   row_fits : {d x y : ℕ} → d ≡ head_size_of s → x ≡ c → y ≡ w → RowFits format d x y
   row_fits d x y = let q = k.cell_row in let o = k.scale-row in rw k.named (shape_fits s k.fits.in-limits d (x ∙ rw k.named at q) (y ∙ rw k.named at o))

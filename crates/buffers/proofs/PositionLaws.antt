@@ -3,6 +3,8 @@
 use mathlib.Core.Path.{◌≡◌, refl, sym, ap, ◌∙◌}
 use mathlib.Core.List.{List}
 use Prim.Native.Nat.{ℕ, ◌+◌, ◌-◌, ◌*◌, ◌≤◌, ◌<◌}
+use native.Mathlib.Nat.{add-mul, mul-le-mul_right}
+use Rattle.std.proofs.Common.{min}
 use native.Mathlib.Omega.{arith}
 use native.Mathlib.Decide.{dec_lt}
 use lib.ListN.{length}
@@ -51,6 +53,17 @@ module _ {b : ℕ} {s : Shape} {l side p : ℕ} {rows : ℕ → ℕ → List ℕ
     side_join =
         places_same b s _ _ (side_keeps further between (side_keeps first x whole)) (side_keeps f x whole)
         (λ l' side' h p' u. join_at u (among l side p (j + k) l' side' p') (dec_lt p' (p + j)))
+
+-- up to eight positions from position j on are written next, and their numbers lie among m
+pub record Next (n j k w m : ℕ) : Type 0 where
+  pub some : 0 < k
+  pub passed : j + k ≤ n
+  pub numbers_in : j * w + k * w ≤ m
+
+pub next_in : {n j k w m : ℕ} → m ≡ n * w → k ≡ min (n - j) 8 → j < n → Next n j k w m
+next_in {n} {j} {k} {w} q e v =
+    let u : j + k ≤ n = omega arith in
+    record { some = omega arith; passed = u; numbers_in = rw (q, ← add-mul j k w) (mul-le-mul_right w u) }
 
 -- a loop over n positions, whose rows are a code of their numbers: out is x with the first j of them
 module _ (b : ℕ) (s : Shape) (l side p n : ℕ) (code : List ℕ → List ℕ) (numbers x : List ℕ) where

@@ -1,15 +1,17 @@
 -- What the functions inside ask of their arguments, which the calls test for: the paper's Buffers, under Shape and room.
--- Positions of a layer in whole buffers, and the rows of one head.
+-- Positions of a layer, whole buffers, and the rows of one head.
 use Rattle.std.specs.Prelude.{◌≡◌, true, ℕ, ◌+◌, ◌*◌, ◌≤◌, ◌<◌}
 use Rattle.shapes.specs.Shape.{bytes_of, words_of, width, cell_total, scale_total, limits}
 use Rattle.shapes.specs.declared.Shape.{Shape}
 
--- positions p to p + n - 1 of a side of layer l, in whole buffers
-pub record InLayer (s : Shape) (l side p n cells scales : ℕ) : Type 0 where
+-- positions p to p + n - 1 of layer l
+pub record InLayer (s : Shape) (l p n : ℕ) : Type 0 where
   pub in-limits : limits s ≡ true
   pub layer_in : l < s.layers
-  pub side_in : side < 2
   pub span : p + n ≤ s.capacity
+
+-- whole buffers
+pub record IsRoom (s : Shape) (cells scales : ℕ) : Type 0 where
   pub cell_size : cells ≡ cell_total s
   pub scale_size : scales ≡ scale_total s
 

@@ -1,3 +1,5 @@
 pub mod Calls
 pub mod Fits
+pub mod Heads
+pub mod Side
 pub mod Write

@@ -1,27 +1,31 @@
 // Buffers: rows of numbers in both buffers, appended to a layer and removed from it. The caller says how many positions the layer has.
 #![tactic(auto)]
 
-ghost use Rattle.std.specs.Prelude.{◌≡◌, ◌&&◌, ◌*◌, min, length, replicate};
+ghost use Rattle.std.specs.Prelude.{◌≡◌, ◌&&◌, ℕ, ◌+◌, ◌*◌, ◌≤◌, ◌<◌, List, length, replicate};
 ghost use Rattle.lists.specs.Chunks.{joined};
 ghost use Rattle.replies.specs.Tried.{tells};
 ghost use Rattle.shapes.specs.Buffers.{buffers};
-ghost use Rattle.shapes.specs.Shape.{bytes_of, words_of, width, within, exact};
+ghost use Rattle.shapes.specs.Format.{format_number};
+ghost use Rattle.shapes.specs.Shape.{bytes_of, words_of, width, cell_total, scale_total, within, exact};
+ghost use Rattle.places.specs.Span.{span_at, span_of};
 ghost use Rattle.rows.specs.Row.{row_cells, row_scales};
 ghost use Rattle.buffers.specs.Write.{written_side, zeros};
 ghost use Rattle.buffers.specs.Calls.{head_numbers, cell_row_of, scale_row, append_rows_of, remove_rows_of};
-ghost use Rattle.buffers.specs.Fits.{InLayer, HeadRows};
+ghost use Rattle.buffers.specs.Fits.{InLayer, IsRoom, HeadRows};
+ghost use Rattle.buffers.specs.Heads.{AcceptsHead, LeavesHead};
+ghost use Rattle.buffers.specs.Side.{side_number};
 
 use encode::put_row;
-use places::span_of;
-use shapes::{Shape, cell_bytes, room_reply, scale_words};
+use places::{Span, span_of};
+use shapes::{Format, Shape, cell_bytes, room_reply, scale_words};
 
 // Zeroes both buffers.
 pub fn clear_all(cells: &mut [u8], scales: &mut [u32])
     ensures cells { cells.new ≡ replicate (length cells.old) 0 }
     ensures scales { scales.new ≡ replicate (length scales.old) 0 }
 {
-    zero_cells(cells);
-    zero_words(scales);
+    cells.fill(0);
+    scales.fill(0);
 }
 
 // Appends keys and values to a layer that has `len` positions, where they fit, and answers whether they do.
@@ -47,8 +51,14 @@ pub fn append_rows(
     if !(fits & whole) {
         return false;
     }
-    put_positions(shape, layer, 0, len as usize, n, keys, cells, scales);
-    put_positions(shape, layer, 1, len as usize, n, values, cells, scales);
+    let run = Run {
+        shape,
+        layer,
+        p: len as usize,
+        n,
+    };
+    run.put(Side::Keys, keys, cells, scales);
+    run.put(Side::Values, values, cells, scales);
     true
 }
 
@@ -69,9 +79,14 @@ pub fn remove_rows(
         return false;
     }
     if t < len {
-        let n = (len - t) as usize;
-        clear_side(shape, layer, 0, t as usize, n, cells, scales);
-        clear_side(shape, layer, 1, t as usize, n, cells, scales);
+        let run = Run {
+            shape,
+            layer,
+            p: t as usize,
+            n: (len - t) as usize,
+        };
+        run.clear(Side::Keys, cells, scales);
+        run.clear(Side::Values, cells, scales);
     }
     true
 }
@@ -83,107 +98,136 @@ fn has_room(shape: Shape, cells: usize, scales: usize) -> bool
     room_reply(shape, cells, scales).is_ok()
 }
 
-// Eight positions at a time, since their numbers lie side by side: memory is read nearly in its order.
-fn put_positions(
+// The two sides of a layer.
+#[derive(Clone, Copy)]
+enum Side {
+    Keys,
+    Values,
+}
+
+impl Side {
+    fn number(self) -> u32
+        ensures value { result ≡ side_number self }
+        ensures below { result < 2 }
+    {
+        match self {
+            Side::Keys => 0,
+            Side::Values => 1,
+        }
+    }
+}
+
+// The positions `p` to `p + n - 1` of a layer, which the shape has.
+#[derive(Clone, Copy)]
+struct Run {
     shape: Shape,
     layer: u32,
-    side: u32,
     p: usize,
     n: usize,
-    numbers: &[u32],
-    cells: &mut [u8],
-    scales: &mut [u32],
-)
-    requires in_layer { InLayer shape layer side p n (length cells.old) (length scales.old) }
-    requires numbers_len { length numbers.now ≡ n * width shape }
-    ensures cells { cells.new ≡ written_side (bytes_of shape) shape layer side p n (cell_row_of shape numbers.now) cells.old }
-    ensures scales { scales.new ≡ written_side (words_of shape) shape layer side p n (scale_row shape numbers.now) scales.old }
-{
-    let width = shape.heads as usize * shape.head_size as usize;
-    let mut j = 0;
-    while j < n {
-        let k = next_positions(n - j);
-        let a = j * width;
-        put_side(
-            shape,
-            layer,
+    ghost inside: { InLayer shape layer p n },
+}
+
+impl Run {
+    // Eight positions at a time, since their numbers lie side by side: memory is read nearly in its order.
+    #[tactic(auto, using(crate::proofs::PositionLaws::next_in))]
+    fn put(self, side: Side, numbers: &[u32], cells: &mut [u8], scales: &mut [u32])
+        requires room { IsRoom self.shape (length cells.old) (length scales.old) }
+        requires numbers_len { length numbers.now ≡ self.n * width self.shape }
+        ensures cells { cells.new ≡ written_side (bytes_of self.shape) self.shape self.layer (side_number side) self.p self.n (cell_row_of self.shape numbers.now) cells.old }
+        ensures scales { scales.new ≡ written_side (words_of self.shape) self.shape self.layer (side_number side) self.p self.n (scale_row self.shape numbers.now) scales.old }
+    {
+        let width = self.shape.heads as usize * self.shape.head_size as usize;
+        for j in (0..self.n).step_by(8) {
+            let k = (self.n - j).min(8);
+            let a = j * width;
+            let next = Run {
+                shape: self.shape,
+                layer: self.layer,
+                p: self.p + j,
+                n: k,
+            };
+            next.put_heads(side, &numbers[a..a + k * width], cells, scales);
+        }
+    }
+
+    // Rows of numbers in each head.
+    fn put_heads(self, side: Side, numbers: &[u32], cells: &mut [u8], scales: &mut [u32])
+        requires room { IsRoom self.shape (length cells.old) (length scales.old) }
+        requires numbers_len { length numbers.now ≡ self.n * width self.shape }
+        ensures cells { cells.new ≡ written_side (bytes_of self.shape) self.shape self.layer (side_number side) self.p self.n (cell_row_of self.shape numbers.now) cells.old }
+        ensures scales { scales.new ≡ written_side (words_of self.shape) self.shape self.layer (side_number side) self.p self.n (scale_row self.shape numbers.now) scales.old }
+    {
+        self.each_head(side, cells, scales, |h, cells, scales| {
+            put_rows(self.shape, h, self.n, numbers, cells, scales)
+        });
+    }
+
+    // Zeros in each head.
+    fn clear(self, side: Side, cells: &mut [u8], scales: &mut [u32])
+        requires { IsRoom self.shape (length cells.old) (length scales.old) }
+        ensures cells { cells.new ≡ written_side (bytes_of self.shape) self.shape self.layer (side_number side) self.p self.n (zeros (bytes_of self.shape) (side_number side)) cells.old }
+        ensures scales { scales.new ≡ written_side (words_of self.shape) self.shape self.layer (side_number side) self.p self.n (zeros (words_of self.shape) (side_number side)) scales.old }
+    {
+        self.each_head(
             side,
-            p + j,
-            k,
-            &numbers[a..a + k * width],
             cells,
             scales,
+            |_, cells, scales| clear_all(cells, scales),
         );
-        j += k;
     }
-}
 
-// How many positions are written next: eight while there are as many.
-fn next_positions(rest: usize) -> usize
-    ensures { result ≡ min rest 8 }
-{
-    if rest < 8 { rest } else { 8 }
-}
-
-// Rows in each head of a side: head after head, a block further in both buffers.
-fn put_side(
-    shape: Shape,
-    layer: u32,
-    side: u32,
-    p: usize,
-    n: usize,
-    numbers: &[u32],
-    cells: &mut [u8],
-    scales: &mut [u32],
-)
-    requires in_layer { InLayer shape layer side p n (length cells.old) (length scales.old) }
-    requires numbers_len { length numbers.now ≡ n * width shape }
-    ensures cells { cells.new ≡ written_side (bytes_of shape) shape layer side p n (cell_row_of shape numbers.now) cells.old }
-    ensures scales { scales.new ≡ written_side (words_of shape) shape layer side p n (scale_row shape numbers.now) scales.old }
-{
-    let first = span_of(shape, layer, side, 0, p, n);
-    let c = shape.capacity as usize * cell_bytes(shape.format, shape.head_size);
-    let w = shape.capacity as usize * scale_words(shape.format, shape.head_size);
-    let mut h = 0;
-    while h < shape.heads as usize {
-        let a = h * c;
-        let b = h * w;
-        put_rows(
-            shape,
-            h,
-            n,
-            numbers,
-            &mut cells[first.cells_from + a..first.cells_to + a],
-            &mut scales[first.scales_from + b..first.scales_to + b],
-        );
-        h += 1;
+    // Lends `write` the positions in each head: head after head, a block further in both buffers.
+    fn each_head<F: Fn(usize, &mut [u8], &mut [u32])>(
+        self,
+        side: Side,
+        cells: &mut [u8],
+        scales: &mut [u32],
+        write: F,
+    )
+        requires room { IsRoom self.shape (length cells.old) (length scales.old) }
+        requires accepts { (h : ℕ) → h < self.shape.heads
+            → AcceptsHead F.Fn write h (self.n * bytes_of self.shape) (self.n * words_of self.shape) }
+        ensures { (rows rows' : ℕ → ℕ → List ℕ)
+            → ((h : ℕ) → h < self.shape.heads
+            → LeavesHead F.Fn write h (self.n * bytes_of self.shape) (self.n * words_of self.shape)
+            (joined self.n (rows h)) (joined self.n (rows' h)))
+            → (cells.new ≡ written_side (bytes_of self.shape) self.shape self.layer (side_number side) self.p self.n rows cells.old)
+            × (scales.new ≡ written_side (words_of self.shape) self.shape self.layer (side_number side) self.p self.n rows' scales.old) }
+    {
+        let side = side.number();
+        let first = span_of(self.shape, self.layer, side, 0, self.p, self.n);
+        let c = cell_bytes(self.shape.format, self.shape.head_size);
+        let w = scale_words(self.shape.format, self.shape.head_size);
+        for h in 0..self.shape.heads as usize {
+            let span = self.head(side, first, c, w, h);
+            write(
+                h,
+                &mut cells[span.cells_from..span.cells_to],
+                &mut scales[span.scales_from..span.scales_to],
+            );
+        }
     }
-}
 
-// Zeros in each head of a side, by the same offsets.
-fn clear_side(
-    shape: Shape,
-    layer: u32,
-    side: u32,
-    p: usize,
-    n: usize,
-    cells: &mut [u8],
-    scales: &mut [u32],
-)
-    requires { InLayer shape layer side p n (length cells.old) (length scales.old) }
-    ensures cells { cells.new ≡ written_side (bytes_of shape) shape layer side p n (zeros (bytes_of shape) side) cells.old }
-    ensures scales { scales.new ≡ written_side (words_of shape) shape layer side p n (zeros (words_of shape) side) scales.old }
-{
-    let first = span_of(shape, layer, side, 0, p, n);
-    let c = shape.capacity as usize * cell_bytes(shape.format, shape.head_size);
-    let w = shape.capacity as usize * scale_words(shape.format, shape.head_size);
-    let mut h = 0;
-    while h < shape.heads as usize {
-        let a = h * c;
-        let b = h * w;
-        zero_cells(&mut cells[first.cells_from + a..first.cells_to + a]);
-        zero_words(&mut scales[first.scales_from + b..first.scales_to + b]);
-        h += 1;
+    // Where the positions lie in head `h`: a block further for each head than in the first, where rows have `c` and `w` elements.
+    #[tactic(auto, using(crate::proofs::LoopLaws::cells_fit, crate::proofs::LoopLaws::words_fit))]
+    fn head(self, side: u32, first: Span, c: usize, w: usize, h: usize) -> Span
+        requires side_in { side < 2 }
+        requires first { first ≡ span_of self.shape self.layer side 0 self.p self.n }
+        requires c { c ≡ bytes_of self.shape }
+        requires w { w ≡ words_of self.shape }
+        requires there { h < self.shape.heads }
+        ensures value { result ≡ span_at self.shape self.layer side h self.p self.n }
+        ensures cells { (result.cells_from ≤ result.cells_to) × (result.cells_to ≤ cell_total self.shape) }
+        ensures scales { (result.scales_from ≤ result.scales_to) × (result.scales_to ≤ scale_total self.shape) × (result.scales_to ≤ 68719476736) }
+    {
+        let a = h * (self.shape.capacity as usize * c);
+        let b = h * (self.shape.capacity as usize * w);
+        Span {
+            cells_from: first.cells_from + a,
+            cells_to: first.cells_to + a,
+            scales_from: first.scales_from + b,
+            scales_to: first.scales_to + b,
+        }
     }
 }
 
@@ -193,19 +237,19 @@ fn put_rows(shape: Shape, h: usize, n: usize, numbers: &[u32], cells: &mut [u8],
     ensures cells { cells.new ≡ joined n (cell_row_of shape numbers.now h) }
     ensures scales { scales.new ≡ joined n (scale_row shape numbers.now h) }
 {
-    let format = shape.format;
-    match format {
-        0 => put_rows_in(0, shape, h, n, numbers, cells, scales),
-        1 => put_rows_in(1, shape, h, n, numbers, cells, scales),
-        2 => put_rows_in(2, shape, h, n, numbers, cells, scales),
-        3 => put_rows_in(3, shape, h, n, numbers, cells, scales),
-        _ => put_rows_in(format, shape, h, n, numbers, cells, scales),
+    match Format::try_from(shape.format) {
+        Ok(Format::F32) => put_rows_in(Format::F32, shape, h, n, numbers, cells, scales),
+        Ok(Format::Bf16) => put_rows_in(Format::Bf16, shape, h, n, numbers, cells, scales),
+        Ok(Format::Int8) => put_rows_in(Format::Int8, shape, h, n, numbers, cells, scales),
+        Ok(Format::Int4) => put_rows_in(Format::Int4, shape, h, n, numbers, cells, scales),
+        Err(_) => unreachable!(),
     }
 }
 
 // Row after row, in the shape's format.
+#[tactic(auto, using(crate::proofs::HeadLaws::rows_there))]
 fn put_rows_in(
-    format: u32,
+    format: Format,
     shape: Shape,
     h: usize,
     n: usize,
@@ -213,16 +257,16 @@ fn put_rows_in(
     cells: &mut [u8],
     scales: &mut [u32],
 )
-    requires { (format ≡ shape.format) × HeadRows shape h n (length numbers.now) (length cells.old) (length scales.old) }
-    ensures cells { cells.new ≡ joined n (λ i. row_cells format (head_numbers shape numbers.now h i)) }
-    ensures scales { scales.new ≡ joined n (λ i. row_scales format (head_numbers shape numbers.now h i)) }
+    requires { (format_number format ≡ shape.format) × HeadRows shape h n (length numbers.now) (length cells.old) (length scales.old) }
+    ensures cells { cells.new ≡ joined n (λ i. row_cells (format_number format) (head_numbers shape numbers.now h i)) }
+    ensures scales { scales.new ≡ joined n (λ i. row_scales (format_number format) (head_numbers shape numbers.now h i)) }
 {
+    let format = format as u32;
     let d = shape.head_size as usize;
     let c = cell_bytes(format, shape.head_size);
     let w = scale_words(format, shape.head_size);
     let width = shape.heads as usize * d;
-    let mut i = 0;
-    while i < n {
+    for i in 0..n {
         let from = i * width + h * d;
         let a = i * c;
         let b = i * w;
@@ -232,28 +276,5 @@ fn put_rows_in(
             &mut cells[a..a + c],
             &mut scales[b..b + w],
         );
-        i += 1;
-    }
-}
-
-// Zeroes every cell.
-fn zero_cells(cells: &mut [u8])
-    ensures { cells.new ≡ replicate (length cells.old) 0 }
-{
-    let mut i = 0;
-    while i < cells.len() {
-        cells[i] = 0;
-        i += 1;
-    }
-}
-
-// Zeroes every scale word.
-fn zero_words(words: &mut [u32])
-    ensures { words.new ≡ replicate (length words.old) 0 }
-{
-    let mut i = 0;
-    while i < words.len() {
-        words[i] = 0;
-        i += 1;
     }
 }

@@ -1,5 +1,5 @@
 -- The tests decide: refused, both buffers are as they were, and past them both sides of the layer have the new rows.
-use mathlib.Core.Path.{◌≡◌}
+use mathlib.Core.Path.{◌≡◌, refl}
 use mathlib.Core.Bool.{Bool, true, ◌&&◌}
 use mathlib.Core.List.{List}
 use Prim.Native.Nat.{ℕ, ◌+◌, ◌*◌}
@@ -15,7 +15,7 @@ use Rattle.shapes.specs.declared.Shape.{Shape}
 use Rattle.shapes.specs.Shape.{width, positions, within, exact}
 use Rattle.shapes.proofs.ShapeLaws.{width_in}
 use Rattle.buffers.specs.Calls.{side_of, cell_row_of, scale_row, appended, layer_fits_of, whole_rows, append_rows_of}
-use Rattle.buffers.proofs.FitLaws.{room_limits, layer_fits, layer_left, in-layer, both_sides}
+use Rattle.buffers.proofs.FitLaws.{room_limits, layer_fits, layer_left, in-layer, has-room, both_sides}
 use Rattle.buffers.proofs.RunLaws.{whole-rows}
 use Rattle.buffers.proofs.append_rows.Goals as goal
 
@@ -66,35 +66,37 @@ returns-then-not-fits-whole c =
     (tested a.shape a.layer a.len a.keys.now a.values.now a.cells.now a.scales.now c.has_room.ensures c.if-not-has_room.false)
     c.if-not-fits-whole.true)
 
-pub put_positions-requires : goal.put_positions-requires
-put_positions-requires c =
+pub invariant_of-run : goal.invariant_of-run
+invariant_of-run c =
     let a = c.args in
     let x =
     fits a.shape a.layer a.len a.keys.now a.values.now a.cells.now a.scales.now c.has_room.ensures c.if-not-has_room.false
     c.if-not-fits-whole.false in
-    record {
-      in_layer = in-layer _ _ _ _ x.0 (omega arith) (le_refl _) (search rules) (search rules);
-      numbers_len = x.1;
-    }
+    record { inside = in-layer _ _ _ _ x.0 (le_refl _) }
 
-pub put_positions-requires-2 : goal.put_positions-requires-2
-put_positions-requires-2 c =
+pub put-requires : goal.put-requires
+put-requires c =
     let a = c.args in
     let x =
     fits a.shape a.layer a.len a.keys.now a.values.now a.cells.now a.scales.now c.has_room.ensures c.if-not-has_room.false
     c.if-not-fits-whole.false in
-    record {
-      in_layer = in-layer _ _ _ _ x.0 (omega arith) (le_refl _) (search rules) (search rules);
-      numbers_len = omega arith;
-    }
+    record { room = has-room _ _ _ _ x.0 refl refl; numbers_len = x.1 }
+
+pub put-requires-2 : goal.put-requires-2
+put-requires-2 c =
+    let a = c.args in
+    let x =
+    fits a.shape a.layer a.len a.keys.now a.values.now a.cells.now a.scales.now c.has_room.ensures c.if-not-has_room.false
+    c.if-not-fits-whole.false in
+    record { room = has-room _ _ _ _ x.0 (search rules) (search rules); numbers_len = omega arith }
 
 pub returns : goal.returns
 unfolding append_rows_of appended
 returns c =
     let a = c.args in
     let numbers = side_of a.keys.now a.values.now in
-    let k = c.put_positions.ensures in
-    let v = c.put_positions-2.ensures in
+    let k = c.put.ensures in
+    let v = c.put-2.ensures in
     tried-done _ _
     (passed
     (tested a.shape a.layer a.len a.keys.now a.values.now a.cells.now a.scales.now c.has_room.ensures c.if-not-has_room.false)

@@ -1,5 +1,5 @@
 -- The test decides: refused, both buffers are as they were, and past it the layer's positions are zeros, or none are removed.
-use mathlib.Core.Path.{◌≡◌, sym}
+use mathlib.Core.Path.{◌≡◌, refl, sym}
 use mathlib.Core.Bool.{Bool, ◌&&◌}
 use Prim.Native.Nat.{ℕ, ◌-◌}
 use native.Mathlib.Omega.{arith}
@@ -13,7 +13,7 @@ use Rattle.shapes.specs.declared.Shape.{Shape}
 use Rattle.shapes.specs.Shape.{bytes_of, words_of, within, exact}
 use Rattle.buffers.specs.Write.{zeros}
 use Rattle.buffers.specs.Calls.{layer_fits_of, removed, remove_rows_of}
-use Rattle.buffers.proofs.FitLaws.{layer_fits, in-layer, both_sides}
+use Rattle.buffers.proofs.FitLaws.{layer_fits, in-layer, has-room, both_sides}
 use Rattle.buffers.proofs.Nothing.{removed_none}
 use Rattle.buffers.proofs.remove_rows.Goals as goal
 
@@ -28,25 +28,31 @@ returns-then-not-has_room-fits c =
     let a = c.args in
     rw (failed (tested a.shape a.layer a.len (buffers a.cells.now a.scales.now) c.has_room.ensures) c.if-not-has_room-fits.true)
 
-pub clear_side-requires : goal.clear_side-requires
-clear_side-requires c =
+pub invariant_of-run : goal.invariant_of-run
+invariant_of-run c =
     let a = c.args in
     let t = tested a.shape a.layer a.len (buffers a.cells.now a.scales.now) c.has_room.ensures in
-    in-layer _ _ _ _ (passed t c.if-not-has_room-fits.false) (omega arith) (omega arith) (search rules) (search rules)
+    record { inside = in-layer _ _ _ _ (passed t c.if-not-has_room-fits.false) (omega arith) }
 
-pub clear_side-requires-then-t-len : goal.clear_side-requires-then-t-len
-clear_side-requires-then-t-len c =
+pub clear-requires : goal.clear-requires
+clear-requires c =
     let a = c.args in
     let t = tested a.shape a.layer a.len (buffers a.cells.now a.scales.now) c.has_room.ensures in
-    in-layer _ _ _ _ (passed t c.if-not-has_room-fits.false) (omega arith) (omega arith) (search rules) (search rules)
+    has-room _ _ _ _ (passed t c.if-not-has_room-fits.false) refl refl
+
+pub clear-requires-then-t-len : goal.clear-requires-then-t-len
+clear-requires-then-t-len c =
+    let a = c.args in
+    let t = tested a.shape a.layer a.len (buffers a.cells.now a.scales.now) c.has_room.ensures in
+    has-room _ _ _ _ (passed t c.if-not-has_room-fits.false) (search rules) (search rules)
 
 pub returns-then-t-len : goal.returns-then-t-len
 unfolding remove_rows_of removed
 returns-then-t-len c =
     let a = c.args in
     let b = buffers a.cells.now a.scales.now in
-    let k = c.clear_side.ensures in
-    let v = c.clear_side-then-t-len.ensures in
+    let k = c.clear.ensures in
+    let v = c.clear-then-t-len.ensures in
     tried-done _ _ (passed (tested a.shape a.layer a.len b c.has_room.ensures) c.if-not-has_room-fits.false)
     (both_sides a.shape a.layer a.t (a.len - a.t) (zeros (bytes_of a.shape)) (zeros (words_of a.shape)) b (k.cells, k.scales)
     (v.cells, v.scales))
