@@ -261,7 +261,7 @@ fn put_rows_in(
     ensures cells { cells.new ≡ joined n (λ i. row_cells (format_number format) (head_numbers shape numbers.now h i)) }
     ensures scales { scales.new ≡ joined n (λ i. row_scales (format_number format) (head_numbers shape numbers.now h i)) }
 {
-    let format = format as u32;
+    let format = u32::from(format);
     let d = shape.head_size as usize;
     let c = cell_bytes(format, shape.head_size);
     let w = scale_words(format, shape.head_size);

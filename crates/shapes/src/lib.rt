@@ -4,7 +4,7 @@
 ghost use Rattle.std.specs.Prelude.{◌≡◌, true, ◌≤◌};
 ghost use Rattle.replies.specs.Reply.{reply_number};
 ghost use Rattle.replies.specs.Outcome.{lowest};
-ghost use Rattle.shapes.specs.Format.{known, whole_groups_of, NumberOf};
+ghost use Rattle.shapes.specs.Format.{known, whole_groups_of, format_number, NumberOf};
 ghost use Rattle.shapes.specs.Shape.{cell_bytes_of, scale_words_of, total, cell_total, scale_total, up_to, limits, within, need_of, room_refusals};
 
 use replies::{Refusal, require};
@@ -32,6 +32,14 @@ impl TryFrom<u32> for Format {
             3 => Ok(Format::Int4),
             _ => Err(Refusal::Shape),
         }
+    }
+}
+
+impl From<Format> for u32 {
+    ghost from_gives = { λ format number. number ≡ format_number format };
+
+    fn from(format: Format) -> u32 {
+        format as u32
     }
 }
 
