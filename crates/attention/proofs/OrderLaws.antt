@@ -20,6 +20,11 @@ pub summed_next : (n : ℕ) (term : ℕ → Float) {x y : Float} → x ≡ summe
 unfolding summed
 summed_next n term o e = turns_next n (λ i sum. add binary32 sum (term i)) (float 0) o e
 
+-- terms that agree
+pub summed_same : (n : ℕ) (term term' : ℕ → Float) → ((i : ℕ) → i < n → term i ≡ term' i) → summed n term ≡ summed n term'
+unfolding summed
+summed_same n term term' e = turns_same n _ _ _ (λ i b. rw (e i b))
+
 -- terms added to a list, and to a table
 added_is : (term : ℕ → Float) (l : List Float) → added term l ≡ tab (length l) (λ i. add binary32 (get_or l i nan) (term i))
 unfolding added
@@ -57,13 +62,16 @@ unfolding turns summed
 rows_columns d zero term = tab-replicate d (float 0)
 rows_columns d (suc m) term = rows_turn d m term (rows_columns d m term) ∙ rw add-one
 
--- the words of floats, as a table; those of the columns are the sums
-pub words-tab : (l : List Float) → map word l ≡ tab (length l) (λ i. word (get_or l i nan))
-words-tab l = tab_of _ _ (map word l) (word nan) (length-map l word) (λ i b. get_or-map word l i nan)
+-- the words of what is made of floats, as a table; those of the columns are the sums
+pub mapped-tab : (f : Float → ℕ) (l : List Float) → map f l ≡ tab (length l) (λ i. f (get_or l i nan))
+mapped-tab f l = tab_of _ _ (map f l) (f nan) (length-map l f) (λ i b. get_or-map f l i nan)
+
+pub map-tab : (f : Float → ℕ) (n : ℕ) (g : ℕ → Float) → map f (tab n g) ≡ tab n (λ i. f (g i))
+map-tab f n g = rw (mapped-tab f (tab n g), tab-length n g) (tab_same n _ _ (λ i b. rw tab-get_or))
 
 pub sums_words : (d m : ℕ) (term : ℕ → ℕ → Float) → map word (turns m (λ p. added (term p)) (replicate d (float 0))) ≡ sums_of d m term
 unfolding sums_of
-sums_words d m term = rw (rows_columns d m term, words-tab, tab-length) (tab_same d _ _ (λ i b. rw tab-get_or))
+sums_words d m term = rw (rows_columns d m term) (map-tab word d _)
 
 -- l with its term added at each of the first j places
 abbrev pub added_to : ℕ → (ℕ → Float) → List Float → List Float

@@ -4,7 +4,8 @@ use native.Mathlib.Omega.{arith}
 use borrow.Author.Rules.{rules}
 use Rattle.lists.specs.Chunks.{tab}
 use Rattle.lists.proofs.Tab.{tab-set, tab-done}
-use Rattle.attention.proofs.OrderLaws.{words-tab}
+use Rattle.numbers.specs.Word.{word}
+use Rattle.attention.proofs.OrderLaws.{mapped-tab}
 use Rattle.sums.proofs.put_sums.Goals as goal
 
 pub loop-i-init : goal.loop-i-init
@@ -16,4 +17,4 @@ loop-i-preserved c = (tab-set _ _ _ (omega arith) c.loop-i.invariant.0 c.f32_to_
 
 pub returns : goal.returns
 returns c =
-    tab-done _ _ _ c.loop-i.invariant.0 (omega arith) c.requires ∙ sym (words-tab c.args.sums.now)
+    tab-done _ _ _ c.loop-i.invariant.0 (omega arith) c.requires ∙ sym (mapped-tab word c.args.sums.now)

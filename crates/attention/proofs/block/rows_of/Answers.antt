@@ -1,6 +1,6 @@
 -- What is lent is as long as it is said to be.
 use native.Mathlib.Nat.{add-sub_cancel_left}
-use Rattle.scores.proofs.rest.cells_of.Goals as goal
+use Rattle.attention.proofs.block.rows_of.Goals as goal
 
 pub returns : goal.returns
-returns c = rw add-sub_cancel_left
+returns g c = rw add-sub_cancel_left
