@@ -2,14 +2,12 @@
 -- Each holds since a row has its format's sizes, and since the sums of four rows grow each on its own.
 use mathlib.Core.Path.{◌≡◌, refl, ◌∙◌}
 use mathlib.Core.List.{List, map}
-use Prim.Native.Nat.{ℕ, ◌+◌, ◌*◌, ◌/◌, ◌%◌, ◌≤◌, ◌<◌}
-use native.Mathlib.Nat.{add-mul, mul_assoc}
+use Prim.Native.Nat.{ℕ, ◌+◌, ◌*◌, ◌/◌, ◌%◌, ◌≤◌}
 use native.Mathlib.Omega.{arith}
 use borrow.Author.Tests.{eqb-true}
 use lib.ListN.{length, get_or, replicate}
 use lib.Ieee.{Float, nan, binary32, mul}
 use Rattle.lists.specs.Chunks.{tab, turns, part}
-use Rattle.lists.proofs.Part.{part-part, room}
 use Rattle.lists.proofs.Tab.{tab_same}
 use Rattle.numbers.specs.Word.{float, word}
 use Rattle.shapes.specs.Format.{layouts, whole_groups_of}
@@ -20,17 +18,14 @@ use Rattle.rows.specs.Row.{f32_at}
 use Rattle.attention.specs.Order.{scorings, f32_dot, int4_dot, row_dot, scores_of, added}
 use Rattle.attention.specs.Block.{cells_of, scales_in, scores_of_block}
 use Rattle.attention.specs.declared.block.Block.{Block}
-use Rattle.attention.specs.Fits.{ScoredRows, IsF32, IsInt4}
+use Rattle.attention.specs.Fits.{ScoredRows, IsInt4}
 use Rattle.attention.proofs.OrderLaws.{rows_columns, summed_same, map-tab}
+use Rattle.attention.proofs.ScoringLaws.{f32_bytes, row_number}
 use Rattle.attention.proofs.PartLaws.{score_at, part_scores}
 
 -- number d of row i, times the query's
 abbrev pub number_term : List Float → List ℕ → ℕ → ℕ → Float
 number_term query cells d i = mul binary32 (get_or query d nan) (float (f32_at cells (i * length query + d)))
-
--- it is number d of the row's own cells
-row_number : (n : ℕ) (cells : List ℕ) (i d : ℕ) → d < n → f32_at cells (i * n + d) ≡ f32_at (part (i * (n * 4)) (n * 4) cells) d
-row_number n cells i d h = let b = room 4 h in rw (part-part, add-mul, mul_assoc)
 
 pub four_f32_dots : (query : List Float) (cells : List ℕ) {sums : List Float}
     → sums ≡ turns (length query) (λ d. added (number_term query cells d)) (replicate 4 (float 0))
@@ -41,22 +36,13 @@ four_f32_dots query cells e =
     ∙ rows_columns 4 (length query) (number_term query cells)
     ∙ tab_same 4 _ _ (λ i b. summed_same (length query) _ _ (λ d h. rw (row_number (length query) cells i d h)))
 
--- the lengths of four rows in F32, and in INT4
-module _ (format d cells scales : ℕ) (h : ScoredRows format d 4 cells scales) where
-  pub four_of_f32 : format ≡ 0 → IsF32 (4 * d) cells × (d ≤ 256)
-  unfolding cell_bytes_of layouts
-  four_of_f32 e = let k : RowsFit 0 d 4 cells scales = rw e at (fits_facts h.1) in (omega arith, k.small)
-
-  pub four_of_int4 : format ≡ 3 → IsInt4 (4 * d) cells scales × (d % 32 ≡ 0) × (d ≤ 256)
-  unfolding cell_bytes_of scale_words_of whole_groups_of layouts
-  four_of_int4 e =
-      let k : RowsFit 3 d 4 cells scales = rw e at (fits_facts h.1) in
-      let w : d % 32 ≡ 0 = eqb-true (d % 32) 0 k.whole in
-      (omega arith, w, k.small)
-
-f32_bytes : (d : ℕ) → cell_bytes_of 0 d ≡ d * 4
-unfolding cell_bytes_of layouts
-f32_bytes d = omega arith
+-- the lengths of four rows in INT4
+pub four_of_int4 : (format d cells scales : ℕ) → ScoredRows format d 4 cells scales → format ≡ 3 → IsInt4 (4 * d) cells scales × (d % 32 ≡ 0) × (d ≤ 256)
+unfolding cell_bytes_of scale_words_of whole_groups_of layouts
+four_of_int4 format d cells scales h e =
+    let k : RowsFit 3 d 4 cells scales = rw e at (fits_facts h.1) in
+    let w : d % 32 ≡ 0 = eqb-true (d % 32) 0 k.whole in
+    (omega arith, w, k.small)
 
 int4_bytes : (d : ℕ) → d % 32 ≡ 0 → cell_bytes_of 3 d ≡ d / 32 * 16
 unfolding cell_bytes_of layouts

@@ -40,12 +40,9 @@ word_added query cells w g k sums i = turns 4 (λ j. add_byte query (bytes_at ce
 
 -- four bytes more
 pub words_turn : (query : List Float) (cells : List ℕ) (w g k : ℕ) {sums next : List Float}
-    → sums ≡ tab 4 (λ i. turns (k * 4) (add_byte query (bytes_at cells w g i)) (float 0))
-    → next ≡ tab 4 (word_added query cells w g (k * 4) sums)
-    → next ≡ tab 4 (λ i. turns ((k + 1) * 4) (add_byte query (bytes_at cells w g i)) (float 0))
-words_turn query cells w g k o e =
-    let s : (k + 1) * 4 ≡ k * 4 + 4 = omega arith in
-    rw (e, s) (tab_same 4 _ _ (λ i b. rw (o, tab-get_or 4 _ i nan b, turns-add)))
+    → sums ≡ tab 4 (λ i. turns k (add_byte query (bytes_at cells w g i)) (float 0)) → next ≡ tab 4 (word_added query cells w g k sums)
+    → next ≡ tab 4 (λ i. turns (k + 4) (add_byte query (bytes_at cells w g i)) (float 0))
+words_turn query cells w g k o e = rw e (tab_same 4 _ _ (λ i b. rw (o, tab-get_or 4 _ i nan b, turns-add)))
 
 -- group g of row i, times its scale
 abbrev pub four_term : List Float → List ℕ → List ℕ → ℕ → ℕ → ℕ → Float

@@ -64,8 +64,8 @@ fn four_groups(query: &[f32], cells: &[u8], w: usize, g: usize) -> [f32; 4]
     ensures { result ≡ tab 4 (λ i. group_dot query.now (part ((i * w + g) * 16) 16 cells.now)) }
 {
     let mut sums = [0.0; 4];
-    for k in 0..4 {
-        add_words(query, cells, w, g, k * 4, &mut sums);
+    for k in (0..16).step_by(4) {
+        add_words(query, cells, w, g, k, &mut sums);
     }
     sums
 }

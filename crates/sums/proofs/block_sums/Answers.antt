@@ -8,9 +8,11 @@ pub returns-then-not-block_fits : goal.returns-then-not-block_fits
 unfolding block_sums_of
 returns-then-not-block_fits c = rw (failed c.block_fits.ensures c.if-not-block_fits.true)
 
-pub sum_rows-requires : goal.sum_rows-requires
-sum_rows-requires c = both _ _ (passed c.block_fits.ensures c.if-not-block_fits.false)
+pub new-block-requires : goal.new-block-requires
+new-block-requires c = both _ _ (passed c.block_fits.ensures c.if-not-block_fits.false)
 
 pub returns : goal.returns
 unfolding block_sums_of
-returns c = tried-done _ _ (passed c.block_fits.ensures c.if-not-block_fits.false) c.sum_rows.ensures
+returns c =
+    let s = c.new-block.ensures in
+    tried-done _ _ (passed c.block_fits.ensures c.if-not-block_fits.false) (rw (s.shape.0, s.shape.2, s.lent.0, s.lent.1) at c.sum_rows.ensures)

@@ -1,6 +1,6 @@
 -- Past F32 the one format that has scores is INT4.
-use Rattle.attention.proofs.ScoringLaws.{scored_int4}
-use Rattle.scores.proofs.BlockLaws.{four_of_f32, four_of_int4, dots_f32, dots_int4}
+use Rattle.attention.proofs.ScoringLaws.{four_of_f32, scored_int4}
+use Rattle.scores.proofs.BlockLaws.{four_of_int4, dots_f32, dots_int4}
 use Rattle.scores.proofs.fours.four_dots.Goals as goal
 
 pub four_f32-requires : goal.four_f32-requires
