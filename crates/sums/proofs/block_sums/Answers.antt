@@ -1,5 +1,5 @@
 -- The test decides: where the block does not fit the output is as it was, and where it fits it is the block's.
-use Rattle.replies.proofs.Flags.{both, passed, failed}
+use Rattle.replies.proofs.Flags.{passed, failed}
 use Rattle.replies.proofs.Tried.{tried-done}
 use Rattle.attention.specs.Block.{block_sums_of}
 use Rattle.sums.proofs.block_sums.Goals as goal
@@ -7,9 +7,6 @@ use Rattle.sums.proofs.block_sums.Goals as goal
 pub returns-then-not-block_fits : goal.returns-then-not-block_fits
 unfolding block_sums_of
 returns-then-not-block_fits c = rw (failed c.block_fits.ensures c.if-not-block_fits.true)
-
-pub new-block-requires : goal.new-block-requires
-new-block-requires c = both _ _ (passed c.block_fits.ensures c.if-not-block_fits.false)
 
 pub returns : goal.returns
 unfolding block_sums_of

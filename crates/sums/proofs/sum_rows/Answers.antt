@@ -18,8 +18,8 @@ use Rattle.sums.proofs.sum_rows.Goals as goal
 zeros : (d : ℕ) → d ≤ 256 → take d (replicate 256 (float 0)) ≡ replicate d (float 0)
 zeros d h = part-replicate 0 d 256 (float 0) (omega arith)
 
-lent : (d : ℕ) → d ≤ 256 → d ≡ length (take d (replicate 256 (float 0)))
-lent d h = simp (length-take, length-replicate) (omega arith)
+lent : (d : ℕ) (z : Float) → d ≤ 256 → d ≡ length (take d (replicate 256 z))
+lent d z h = simp (length-take, length-replicate) (omega arith)
 
 -- what is handed back, lent again as `&sums[..d]`
 again : (d : ℕ) (y r : List Float) → length y ≡ d → d ≡ length (take d (y ++ r))
@@ -34,32 +34,32 @@ pub slice_bounds-sums-end : goal.slice_bounds-sums-end
 slice_bounds-sums-end c = omega (arith, (fits_facts c.args.block.now.fits.0.1).small)
 
 pub slice_bounds-add_rows-end : goal.slice_bounds-add_rows-end
-slice_bounds-add_rows-end c = lent _ (omega (arith, (fits_facts c.args.block.now.fits.0.1).small))
+slice_bounds-add_rows-end c = lent _ _ (omega (arith, (fits_facts c.args.block.now.fits.0.1).small))
 
 pub add_rows-requires : goal.add_rows-requires
-add_rows-requires c = (c.requires.0 ∙ lent _ (omega (arith, (fits_facts c.args.block.now.fits.0.1).small)), c.requires.1)
+add_rows-requires c = (c.requires.0 ∙ lent _ _ (omega (arith, (fits_facts c.args.block.now.fits.0.1).small)), c.requires.1)
 
 pub slice_bounds-sums-end-2 : goal.slice_bounds-sums-end-2
 slice_bounds-sums-end-2 c =
     let d = length c.args.out.now in
     let h : d ≤ 256 = omega (arith, (fits_facts c.args.block.now.fits.0.1).small) in
-    let e : length c.add_rows.new.out ≡ d = c.add_rows.auto.out ∙ sym (lent d h) in
+    let e : length c.add_rows.new.out ≡ d = c.add_rows.auto.out ∙ sym (lent d _ h) in
     simp length-append (omega arith)
 
 pub slice_bounds-put_sums-end : goal.slice_bounds-put_sums-end
 slice_bounds-put_sums-end c =
     let d = length c.args.out.now in
     let h : d ≤ 256 = omega (arith, (fits_facts c.args.block.now.fits.0.1).small) in
-    again d _ _ (c.add_rows.auto.out ∙ sym (lent d h))
+    again d _ _ (c.add_rows.auto.out ∙ sym (lent d _ h))
 
 pub put_sums-requires : goal.put_sums-requires
 put_sums-requires c =
     let d = length c.args.out.now in
     let h : d ≤ 256 = omega (arith, (fits_facts c.args.block.now.fits.0.1).small) in
-    again d _ _ (c.add_rows.auto.out ∙ sym (lent d h))
+    again d _ _ (c.add_rows.auto.out ∙ sym (lent d _ h))
 
 pub returns : goal.returns
 returns c =
     let d = length c.args.out.now in
     let h : d ≤ 256 = omega (arith, (fits_facts c.args.block.now.fits.0.1).small) in
-    words_of _ d _ _ _ _ _ h c.requires.0 (c.add_rows.auto.out ∙ sym (lent d h)) c.add_rows.ensures c.put_sums.ensures
+    words_of _ d _ _ _ _ _ h c.requires.0 (c.add_rows.auto.out ∙ sym (lent d _ h)) c.add_rows.ensures c.put_sums.ensures

@@ -6,7 +6,7 @@ use lib.ListN.{length}
 use native.Mathlib.Omega.{arith}
 use borrow.Author.Rules.{rules}
 use Rattle.lists.specs.Chunks.{tab}
-use Rattle.lists.proofs.Tab.{tab-set, tab-done, tab_next}
+use Rattle.lists.proofs.Tab.{tab-set, tab_next}
 use Rattle.scores.proofs.words.add_words.Goals as goal
 
 pub loop-i-init : goal.loop-i-init
@@ -19,6 +19,3 @@ loop-i-preserved c =
       tab-set _ _ _ (omega arith) c.loop-i.invariant.0 (c.lane_word.ensures ∙ rw (add-sub_cancel_left, c.loop-i.invariant.0, tab_next)),
       search rules,
     )
-
-pub returns : goal.returns
-returns c = tab-done _ _ _ c.loop-i.invariant.0 (omega arith) (omega arith)

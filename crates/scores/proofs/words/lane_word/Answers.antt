@@ -20,6 +20,3 @@ loop-k-preserved c =
     let below : (n : ℕ) → get_or bytes n 0 < 256 = λ n. (c.type_inv.bytes n).fits in
     let word : c.word_of-word.result ≡ from_little (part args.i 4 bytes) = word_lent bytes args.i c.word_of-word.ensures (omega arith) in
     word_turn bytes args.i below args.query.now args.sum word c.loop-k.k (omega arith) c.loop-k.invariant c.lane_byte-next.ensures refl refl
-
-pub returns : goal.returns
-returns c = let e : c.loop-k.k ≡ 4 = omega arith in rw e at c.loop-k.invariant

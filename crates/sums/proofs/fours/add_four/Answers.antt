@@ -7,13 +7,13 @@ use Rattle.sums.proofs.NanLaws.{counted_plain, four_plain}
 use Rattle.sums.proofs.SumLaws.{four_rows}
 use Rattle.sums.proofs.fours.add_four.Goals as goal
 
-pub add_plain-requires : goal.add_plain-requires
-add_plain-requires c =
+pub add_plain-requires-clause-lengths : goal.add_plain-requires-clause-lengths
+add_plain-requires-clause-lengths c =
     let rows = c.requires.rows in
     let behind = c.requires.behind in
     let four = four_of_f32 _ _ _ _ (rw (rows.0, rows.1) at c.args.four.now.fits.0) rows.2 in
     let next = four_of_f32 _ _ _ _ (rw (behind.0, behind.1) at c.args.next.now.fits.0) behind.2 in
-    record { lengths = (rows.3, four.0, next.0, four.1); plain = c.requires.scanned c.if-is_plain.true }
+    (rows.3, four.0, next.0, four.1)
 
 pub returns-then-is_plain : goal.returns-then-is_plain
 returns-then-is_plain c =
@@ -30,9 +30,5 @@ nans-requires c =
     let next = four_of_f32 _ _ _ _ (rw (behind.0, behind.1) at c.args.next.now.fits.0) behind.2 in
     omega (arith, next.0, next.1, c.add_rest.auto.out)
 
-pub returns : goal.returns
-returns c =
-    record {
-      sums = c.add_rest.ensures;
-      scan = λ z. counted_plain c.args.next.now.cells.now c.nans.ensures c.add_rest.auto.out (eqb-true _ 0 z);
-    }
+pub returns-clause-scan : goal.returns-clause-scan
+returns-clause-scan c = λ z. counted_plain c.args.next.now.cells.now c.nans.ensures c.add_rest.auto.out (eqb-true _ 0 z)

@@ -31,11 +31,8 @@ loop-d-preserved c =
       turns_next c.loop-d.d _ 0 c.loop-d.invariant.1 tally.nans,
     )
 
-pub returns : goal.returns
-returns c =
+pub returns-clause-sums : goal.returns-clause-sums
+returns-clause-sums c =
     let e : c.loop-d.d ≡ length c.args.out.now = omega arith in
     let term : ℕ → ℕ → Float = λ i d. f32_term (get_or c.args.weights.now i nan) c.args.cells.now (i * length c.args.out.now + d) in
-    record {
-      sums = tab-done _ _ _ c.loop-d.invariant.0 e refl ∙ sym (rows_from 4 term c.args.out.now);
-      counted = rw e at c.loop-d.invariant.1;
-    }
+    tab-done _ _ _ c.loop-d.invariant.0 e refl ∙ sym (rows_from 4 term c.args.out.now)

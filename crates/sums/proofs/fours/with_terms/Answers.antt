@@ -1,5 +1,5 @@
 -- The terms of the rows passed are added, and the NaNs of the next ones counted.
-use mathlib.Core.Path.{◌≡◌, refl}
+use mathlib.Core.Path.{refl}
 use Prim.Native.Nat.{ℕ, ◌+◌, ◌*◌, ◌≤◌}
 use native.Mathlib.Omega.{arith}
 use Rattle.lists.specs.Chunks.{turns}
@@ -26,6 +26,3 @@ loop-i-preserved c =
     let args = c.args in
     let count : ℕ → ℕ → ℕ = λ i nans. nans + nan_count args.next.now (i * args.n + args.d) in
     (turns_next _ _ _ c.loop-i.invariant.0 c.with_term-now.ensures.0, omega (arith, turns_turn c.loop-i.i count 0))
-
-pub returns : goal.returns
-returns c = let e : c.loop-i.i ≡ 4 = omega arith in record { sum = rw e at c.loop-i.invariant.0; nans = rw e at c.loop-i.invariant.1 }

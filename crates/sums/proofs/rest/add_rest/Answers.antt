@@ -1,8 +1,6 @@
 -- The terms of the positions passed are added, in their order.
-use mathlib.Core.Path.{◌≡◌, refl}
+use mathlib.Core.Path.{refl}
 use native.Mathlib.Nat.{one-mul}
-use native.Mathlib.Omega.{arith}
-use lib.ListN.{length}
 use Rattle.lists.specs.Chunks.{turns}
 use Rattle.lists.proofs.Turns.{turns_next}
 use Rattle.sums.proofs.rest.add_rest.Goals as goal
@@ -16,6 +14,3 @@ loop-p-preserved c =
     let b = c.args.block.now in
     let row = c.part.ensures in
     turns_next _ _ _ c.loop-p.invariant (rw (row.shape.0, row.cells, row.scales, b.fits.1, b.fits.2, one-mul, one-mul) at c.add_row.ensures)
-
-pub returns : goal.returns
-returns c = let e : c.loop-p.p ≡ length c.args.weights.now = omega arith in rw e at c.loop-p.invariant

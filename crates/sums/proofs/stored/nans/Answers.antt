@@ -1,5 +1,5 @@
 -- The NaNs passed are counted.
-use mathlib.Core.Path.{◌≡◌, refl}
+use mathlib.Core.Path.{refl}
 use native.Mathlib.Omega.{arith}
 use Rattle.lists.specs.Chunks.{turns}
 use Rattle.lists.proofs.Some.{sum_most}
@@ -19,6 +19,3 @@ overflow_add-count c =
 
 pub loop-d-preserved : goal.loop-d-preserved
 loop-d-preserved c = turns_next _ _ 0 c.loop-d.invariant (rw c.nan_at-count.ensures)
-
-pub returns : goal.returns
-returns c = let e : c.loop-d.d ≡ c.args.n = omega arith in rw e at c.loop-d.invariant
