@@ -1,9 +1,11 @@
 // Rows of a format that has scores, one after the other, and parts of what stores them.
-ghost use Rattle.std.specs.Prelude.{◌≡◌, ◌+◌, ◌*◌, ◌≤◌, length};
+ghost use Rattle.std.specs.Prelude.{◌≡◌, true, false, ◌+◌, ◌*◌, ◌≤◌, length, MatchOption};
 ghost use Rattle.lists.specs.Chunks.{part};
 ghost use Rattle.rows.specs.Row.{f32_at};
-ghost use Rattle.attention.specs.Fits.{ScoredRows, SizedRows};
+ghost use Rattle.attention.specs.Block.{block_fits_of};
+ghost use Rattle.attention.specs.Fits.{SizedRows};
 
+use crate::block_fits;
 use decode::word_of;
 use shapes::{cell_bytes, scale_words};
 
@@ -22,19 +24,27 @@ pub struct Block<'a> {
 }
 
 impl<'a> Block<'a> {
-    // `rows` rows of `numbers` numbers.
-    pub fn new(
+    // `rows` rows of `numbers` numbers, where their format has scores and the lengths are theirs.
+    pub fn of(
         format: u32,
         numbers: usize,
         rows: usize,
         cells: &'a [u8],
         scales: &'a [u32],
-    ) -> Block<'a>
-        requires { ScoredRows format numbers rows (length cells.now) (length scales.now) }
-        ensures shape { (result.format ≡ format) × (result.rows ≡ rows) × (result.numbers ≡ numbers) }
-        ensures lent { (result.cells.now ≡ cells.now) × (result.scales.now ≡ scales.now) }
+    ) -> Option<Block<'a>>
+        ensures { MatchOption result
+            (block_fits_of format numbers rows (length cells.now) (length scales.now) ≡ false)
+            (λ b. (block_fits_of format numbers rows (length cells.now) (length scales.now) ≡ true)
+            × (b.format ≡ format)
+            × (b.rows ≡ rows)
+            × (b.numbers ≡ numbers)
+            × (b.cells.now ≡ cells.now)
+            × (b.scales.now ≡ scales.now)) }
     {
-        Block {
+        if !block_fits(format, numbers, rows, cells.len(), scales.len()) {
+            return None;
+        }
+        Some(Block {
             format,
             rows,
             numbers,
@@ -42,7 +52,7 @@ impl<'a> Block<'a> {
             row_scales: scale_words(format, numbers as u32),
             cells,
             scales,
-        }
+        })
     }
 
     // The `n` rows from row `p` on.

@@ -11,7 +11,6 @@ ghost use Rattle.replies.specs.Tried.{tells};
 ghost use Rattle.attention.specs.Block.{scores_of_block, block_scores_of};
 
 use attention::block::Block;
-use attention::block_fits;
 use fours::{four_dots, put_scores};
 use rest::score_rest;
 
@@ -27,10 +26,9 @@ pub fn block_scores(
     ensures { tells result out.new
         ≡ block_scores_of format query.now scale (buffers cells.now scales.now) out.old }
 {
-    if !block_fits(format, query.len(), out.len(), cells.len(), scales.len()) {
+    let Some(block) = Block::of(format, query.len(), out.len(), cells, scales) else {
         return false;
-    }
-    let block = Block::new(format, query.len(), out.len(), cells, scales);
+    };
     score_rows(&block, query, scale, out);
     true
 }

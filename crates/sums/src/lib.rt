@@ -12,7 +12,6 @@ ghost use Rattle.replies.specs.Tried.{tells};
 ghost use Rattle.attention.specs.Block.{rows_added, sums_of_block, block_sums_of};
 
 use attention::block::Block;
-use attention::block_fits;
 use fours::add_f32_rows;
 use numbers::words::f32_to_word;
 use rest::add_rest;
@@ -28,10 +27,9 @@ pub fn block_sums(
     ensures { tells result out.new
         ≡ block_sums_of format weights.now (buffers cells.now scales.now) out.old }
 {
-    if !block_fits(format, out.len(), weights.len(), cells.len(), scales.len()) {
+    let Some(block) = Block::of(format, out.len(), weights.len(), cells, scales) else {
         return false;
-    }
-    let block = Block::new(format, out.len(), weights.len(), cells, scales);
+    };
     sum_rows(&block, weights, out);
     true
 }
