@@ -58,6 +58,6 @@ fn add_numbers(q: f32, cells: &[u8], n: usize, d: usize, sums: &mut [f32; 4])
     ensures { sums.new ≡ added (λ i. mul binary32 q (float (f32_at cells.now (i * n + d)))) sums.old }
 {
     for i in 0..4 {
-        sums[i] = sums[i] + q * word_to_f32(word_at(cells, i * n + d));
+        sums[i] += q * word_to_f32(word_at(cells, i * n + d));
     }
 }

@@ -39,7 +39,7 @@ fn score_f32(query: &[f32], scale: f32, cells: &[u8]) -> f32
 {
     let mut sum = 0.0;
     for (d, q) in query.iter().enumerate() {
-        sum = sum + *q * word_to_f32(word_at(cells, d));
+        sum += *q * word_to_f32(word_at(cells, d));
     }
     sum * scale
 }
@@ -53,7 +53,7 @@ fn score_int4(query: &[f32], scale: f32, cells: &[u8], scales: &[u32]) -> f32
     for (g, word) in scales.iter().enumerate() {
         let a = g * 32;
         let b = g * 16;
-        total = total + dot_group(&query[a..a + 32], &cells[b..b + 16], word_to_f32(*word));
+        total += dot_group(&query[a..a + 32], &cells[b..b + 16], word_to_f32(*word));
     }
     total * scale
 }

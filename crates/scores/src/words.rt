@@ -77,7 +77,7 @@ fn add_groups(sums: [f32; 4], scales: &[u32], w: usize, g: usize, totals: &mut [
         ≡ added (λ i. mul binary32 (get_or sums i nan) (float (get_or scales.now (i * w + g) 0))) totals.old }
 {
     for i in 0..4 {
-        totals[i] = totals[i] + sums[i] * word_to_f32(scales[i * w + g]);
+        totals[i] += sums[i] * word_to_f32(scales[i * w + g]);
     }
 }
 

@@ -38,7 +38,7 @@ fn add_f32(weight: f32, cells: &[u8], out: &mut [f32])
     ensures { out.new ≡ added (f32_term weight cells.now) out.old }
 {
     for (d, sum) in out.iter_mut().enumerate() {
-        *sum = *sum + weight * word_to_f32(word_at(cells, d));
+        *sum += weight * word_to_f32(word_at(cells, d));
     }
 }
 
