@@ -1,4 +1,3 @@
-pub mod FourLaws
 pub mod OrderLaws
 pub mod PartLaws
 pub mod ScoringLaws

@@ -20,29 +20,29 @@ pub summed_next : (n : ℕ) (term : ℕ → Float) {x y : Float} → x ≡ summe
 unfolding summed
 summed_next n term o e = turns_next n (λ i sum. add binary32 sum (term i)) (float 0) o e
 
--- terms added to a list, and to a table
-added_is : (term : ℕ → Float) (l : List Float) → added term l ≡ tab (length l) (λ i. add binary32 (get_or l i nan) (term i))
+-- terms that agree
+pub summed_same : (n : ℕ) (term term' : ℕ → Float) → ((i : ℕ) → i < n → term i ≡ term' i) → summed n term ≡ summed n term'
+unfolding summed
+summed_same n term term' e = turns_same n _ _ _ (λ i b. rw (e i b))
+
+-- terms added to a list, and to a table; those that agree add the same
+pub added_same : (l : List Float) (t t' : ℕ → Float) → ((i : ℕ) → i < length l → t i ≡ t' i) → added t l ≡ added t' l
 unfolding added
-added_is term l = refl
+added_same l t t' e = tab_same (length l) _ _ (λ i b. rw (e i b))
 
 added-tab : (n : ℕ) (term : ℕ → Float) (f : ℕ → Float) → added term (tab n f) ≡ tab n (λ i. add binary32 (f i) (term i))
 unfolding added
 added-tab n term f = rw tab-length (tab_same n _ _ (λ i b. rw tab-get_or))
 
--- the terms of four rows added at a place, one after the other
-module _ (t0 t1 t2 t3 : ℕ → Float) (l : List Float) where
-  abbrev pub four_terms : ℕ → Float
-  four_terms i = add binary32 (add binary32 (add binary32 (add binary32 (get_or l i nan) (t0 i)) (t1 i)) (t2 i)) (t3 i)
+-- the terms of m rows added to a list, one row after the other: each place takes its own, in their order
+pub rows_from : (m : ℕ) (term : ℕ → ℕ → Float) (l : List Float)
+    → turns m (λ p. added (term p)) l ≡ tab (length l) (λ i. turns m (λ p sum. add binary32 sum (term p i)) (get_or l i nan))
+unfolding turns
+rows_from zero term l = tab_of (length l) _ l nan refl (λ i b. refl)
+rows_from (suc m) term l = rw (rows_from m term l, added-tab)
 
-  -- at the next place
-  pub four_next : (j : ℕ) {out : List Float} {x y z v : Float} → j < length l → out ≡ tab j four_terms ++ drop j l
-      → x ≡ add binary32 (get_or out j nan) (t0 j) → y ≡ add binary32 x (t1 j) → z ≡ add binary32 y (t2 j) → v ≡ add binary32 z (t3 j)
-      → set out j v ≡ tab (j + 1) four_terms ++ drop (j + 1) l
-  four_next j h o e0 e1 e2 e3 = tab-set j _ l h o (rw (e3, e2, e1, e0, o, tab_next))
-
-  -- at every place
-  pub four_all : {j : ℕ} {out : List Float} → out ≡ tab j four_terms ++ drop j l → j ≡ length l → out ≡ added t3 (added t2 (added t1 (added t0 l)))
-  four_all o e = tab-done (length l) _ l o e refl ∙ rw (added_is t0 l, added-tab, added-tab, added-tab)
+pub rows_length : (m : ℕ) (term : ℕ → ℕ → Float) (l : List Float) → length (turns m (λ p. added (term p)) l) ≡ length l
+rows_length m term l = rw (rows_from m term l, tab-length)
 
 -- d sums before they become words
 abbrev columns : ℕ → ℕ → (ℕ → ℕ → Float) → List Float
@@ -57,13 +57,16 @@ unfolding turns summed
 rows_columns d zero term = tab-replicate d (float 0)
 rows_columns d (suc m) term = rows_turn d m term (rows_columns d m term) ∙ rw add-one
 
--- the words of floats, as a table; those of the columns are the sums
-pub words-tab : (l : List Float) → map word l ≡ tab (length l) (λ i. word (get_or l i nan))
-words-tab l = tab_of _ _ (map word l) (word nan) (length-map l word) (λ i b. get_or-map word l i nan)
+-- the words of what is made of floats, as a table; those of the columns are the sums
+pub mapped-tab : (f : Float → ℕ) (l : List Float) → map f l ≡ tab (length l) (λ i. f (get_or l i nan))
+mapped-tab f l = tab_of _ _ (map f l) (f nan) (length-map l f) (λ i b. get_or-map f l i nan)
+
+pub map-tab : (f : Float → ℕ) (n : ℕ) (g : ℕ → Float) → map f (tab n g) ≡ tab n (λ i. f (g i))
+map-tab f n g = rw (mapped-tab f (tab n g), tab-length n g) (tab_same n _ _ (λ i b. rw tab-get_or))
 
 pub sums_words : (d m : ℕ) (term : ℕ → ℕ → Float) → map word (turns m (λ p. added (term p)) (replicate d (float 0))) ≡ sums_of d m term
 unfolding sums_of
-sums_words d m term = rw (rows_columns d m term, words-tab, tab-length) (tab_same d _ _ (λ i b. rw tab-get_or))
+sums_words d m term = rw (rows_columns d m term) (map-tab word d _)
 
 -- l with its term added at each of the first j places
 abbrev pub added_to : ℕ → (ℕ → Float) → List Float → List Float

@@ -26,12 +26,12 @@ part_count : (b p n : ℕ) {m r : ℕ} (l : List ℕ) {x : List ℕ} → r ≡ b
     → x ≡ part (p * r) (n * r) l → length x ≡ n * b
 part_count b p n {r = r} l e q h o = rw (o, part_length (p * r) (n * r) l (part_in b p n e q h), e)
 
-pub rows_inside : (p n : ℕ) {format d m cells scales r v : ℕ} → RowsFit format d m cells scales → r ≡ cell_bytes_of format d → v ≡ scale_words_of format d → p + n ≤ m
+rows_inside : (p n : ℕ) {format d m cells scales r v : ℕ} → RowsFit format d m cells scales → r ≡ cell_bytes_of format d → v ≡ scale_words_of format d → p + n ≤ m
     → (p * r + n * r ≤ cells) × (p * v + n * v ≤ scales)
 rows_inside p n k e q h = (part_in _ p n e k.cell-bytes h, part_in _ p n q k.scale-words h)
 
 -- n rows of m are a block of their own
-pub some_rows : (format d m cells scales n : ℕ) {x y : ℕ} → ScoredRows format d m cells scales → n ≤ m → x ≡ n * cell_bytes_of format d → y ≡ n * scale_words_of format d
+some_rows : (format d m cells scales n : ℕ) {x y : ℕ} → ScoredRows format d m cells scales → n ≤ m → x ≡ n * cell_bytes_of format d → y ≡ n * scale_words_of format d
     → ScoredRows format d n x y
 some_rows format d m cells scales n h b e q =
     let k = fits_facts h.1 in

@@ -1,10 +1,18 @@
--- Formats that have scores and sums: the lengths of a row in each, and that there is no other.
--- Each holds by the lines of the table.
+-- Formats that have scores and sums: the lengths of a row in each, where a number lies, and that there is no other.
+-- Each holds by the lines of the table, or since rows lie one after the other.
 use mathlib.Core.Path.{◌≡◌, refl}
 use mathlib.Core.Bool.{true}
-use Prim.Native.Nat.{ℕ, zero, suc, ◌≤◌}
+use mathlib.Core.List.{List}
+use Prim.Native.Nat.{ℕ, zero, suc, ◌+◌, ◌*◌, ◌≤◌, ◌<◌}
+use native.Mathlib.Nat.{add-mul, mul_assoc}
+use native.Mathlib.Omega.{arith}
 use lib.ListN.{length, get_or-eq_default}
-use Rattle.rows.proofs.FitLaws.{fits_facts, f32_fits, int4_fits}
+use Rattle.lists.specs.Chunks.{part}
+use Rattle.lists.proofs.Part.{part-part, room}
+use Rattle.shapes.specs.Format.{layouts}
+use Rattle.shapes.specs.Shape.{cell_bytes_of}
+use Rattle.rows.specs.Row.{f32_at}
+use Rattle.rows.proofs.FitLaws.{RowsFit, fits_facts, f32_fits, int4_fits}
 use Rattle.attention.specs.Order.{scorings, scoring_of, no_scoring, has_scores_of}
 use Rattle.attention.specs.Fits.{ScoredRows, IsF32, IsInt4}
 
@@ -14,6 +22,19 @@ f32_row format d cells scales h e = (f32_fits (rw e at (fits_facts h.1))).0
 
 pub int4_row : (format d cells scales : ℕ) → ScoredRows format d 1 cells scales → format ≡ 3 → IsInt4 d cells scales
 int4_row format d cells scales h e = int4_fits (rw e at (fits_facts h.1))
+
+-- four rows in F32
+pub four_of_f32 : (format d cells scales : ℕ) → ScoredRows format d 4 cells scales → format ≡ 0 → IsF32 (4 * d) cells × (d ≤ 256)
+unfolding cell_bytes_of layouts
+four_of_f32 format d cells scales h e = let k : RowsFit 0 d 4 cells scales = rw e at (fits_facts h.1) in (omega arith, k.small)
+
+-- rows of n numbers in F32: their cells, and number d of row i
+pub f32_bytes : (n : ℕ) → cell_bytes_of 0 n ≡ n * 4
+unfolding cell_bytes_of layouts
+f32_bytes n = omega arith
+
+pub row_number : (n : ℕ) (cells : List ℕ) (i d : ℕ) → d < n → f32_at cells (i * n + d) ≡ f32_at (part (i * (n * 4)) (n * 4) cells) d
+row_number n cells i d h = let b = room 4 h in rw (part-part, add-mul, mul_assoc)
 
 -- a number that the table has not
 pub no-scoring : (format : ℕ) → length scorings ≤ format → scoring_of format ≡ no_scoring

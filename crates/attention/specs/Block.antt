@@ -2,12 +2,12 @@
 -- The paper's section Order of float operations. A call answers whether it was done.
 use Rattle.std.specs.Prelude.{ℕ, ◌*◌, Bool, ◌&&◌, List, length, get_or, Float}
 use Rattle.std.specs.Float.{nan}
-use Rattle.lists.specs.Chunks.{part}
+use Rattle.lists.specs.Chunks.{turns, part}
 use Rattle.shapes.specs.Shape.{cell_bytes_of, scale_words_of}
 use Rattle.shapes.specs.Buffers.{Buffers}
 use Rattle.replies.specs.Tried.{Tried, tried}
 use Rattle.rows.specs.Fit.{rows_fit_of}
-use Rattle.attention.specs.Order.{has_scores_of, row_dot, row_term, scores_of, sums_of}
+use Rattle.attention.specs.Order.{has_scores_of, row_dot, row_term, added, scores_of, sums_of}
 
 -- the cells and the scale words of position p, where a row has d numbers
 abbrev pub cells_of : ℕ → ℕ → Buffers → ℕ → List ℕ
@@ -24,6 +24,10 @@ scores_of_block format query x b m =
 
 abbrev pub block_term : ℕ → List Float → Buffers → ℕ → ℕ → ℕ → Float
 block_term format weights b d p = row_term format (get_or weights p nan) (cells_of format d b p) (scales_in format d b p)
+
+-- the terms of each position added to what is there, in their order
+abbrev pub rows_added : ℕ → List Float → Buffers → ℕ → List Float → List Float
+rows_added format weights b d = turns (length weights) (λ p. added (block_term format weights b d p))
 
 unfoldable pub sums_of_block : ℕ → List Float → Buffers → ℕ → List ℕ
 sums_of_block format weights b d = sums_of d (length weights) (block_term format weights b d)

@@ -1,6 +1,8 @@
 // Attention: what the scores and sums of the first positions of a head's block are, and which blocks have some.
 #![tactic(auto)]
 
+pub mod block;
+
 ghost use Rattle.std.specs.Prelude.{◌≡◌};
 ghost use Rattle.attention.specs.Order.{has_scores_of};
 ghost use Rattle.attention.specs.Block.{block_fits_of};

@@ -1,2 +1,3 @@
+pub mod BlockLaws
 pub mod GroupLaws
 pub mod WordLaws

@@ -1,110 +1,49 @@
--- Some of a block's F32 rows, lent as a part: where they lie, and that their terms are the block's.
--- Each holds since the rows lie one after the other, 4 bytes for each number.
-use mathlib.Core.Path.{◌≡◌, refl, ◌∙◌}
+-- Some rows of a block, lent as a part: their terms are the block's; and four F32 rows at once.
+-- Each holds since the rows lie one after the other.
+use mathlib.Core.Path.{◌≡◌, ◌∙◌}
 use mathlib.Core.List.{List}
-use Prim.Native.Nat.{ℕ, ◌+◌, ◌*◌, ◌/◌, ◌≤◌, ◌<◌}
+use Prim.Native.Nat.{ℕ, ◌+◌, ◌*◌, ◌≤◌, ◌<◌}
 use native.Mathlib.Omega.{arith}
 use lib.ListN.{length, get_or}
 use lib.Seq.{get_or-take, get_or-drop}
-use lib.Ieee.{Float, nan}
+use lib.Ieee.{Float, nan, binary32, add}
 use Rattle.lists.specs.Chunks.{turns, part}
-use Rattle.lists.proofs.Part.{part_length, part-part, part_chunk}
-use Rattle.lists.proofs.Tab.{tab-length, tab_same}
+use Rattle.lists.proofs.Part.{part_length, part_chunk}
 use Rattle.lists.proofs.Turns.{turns_same, turns-add}
-use Rattle.shapes.specs.Format.{layouts}
-use Rattle.shapes.specs.Shape.{cell_bytes_of, scale_words_of}
-use Rattle.rows.specs.Row.{f32_at}
 use Rattle.shapes.specs.Buffers.{buffers}
-use Rattle.rows.proofs.FitLaws.{fits_facts}
 use Rattle.attention.specs.Order.{scorings, f32_term, row_term, added}
-use Rattle.attention.specs.Block.{block_term}
-use Rattle.attention.specs.Fits.{ScoredRows}
-use Rattle.attention.proofs.PartLaws.{rows_inside, some_rows}
+use Rattle.attention.specs.Block.{block_term, rows_added}
+use Rattle.attention.specs.declared.block.Block.{Block}
+use Rattle.attention.proofs.OrderLaws.{added_same, rows_length}
+use Rattle.attention.proofs.ScoringLaws.{f32_bytes, row_number}
 
-pub bytes : (d : ℕ) → d * 4 ≡ cell_bytes_of 0 d
-unfolding cell_bytes_of layouts
-bytes d = omega arith
+module _ (b : Block) (weights : List Float) where
+  -- row p's terms added
+  abbrev pub row_added : ℕ → List Float → List Float
+  row_added p = added (block_term b.format weights (buffers b.cells.now b.scales.now) b.numbers p)
 
-no_words : (d k : ℕ) → k * scale_words_of 0 d ≡ 0
-unfolding scale_words_of layouts
-no_words d k = omega arith
+  -- the terms of k rows from row p on, which are lent as a part, after those of the rows before
+  pub rows_after : (p k : ℕ) (x : List Float) {f n : ℕ} {c w : List ℕ} {u : List Float} (y : List Float) {z : List Float} → p + k ≤ length weights
+      → f ≡ b.format → n ≡ b.numbers → c ≡ part (p * b.row_cells) (k * b.row_cells) b.cells.now → w ≡ part (p * b.row_scales) (k * b.row_scales) b.scales.now
+      → u ≡ part p k weights → y ≡ turns p row_added x → z ≡ rows_added f u (buffers c w) n y → z ≡ turns (p + k) row_added x
+  rows_after p k x y h ef en ec ew eu o g =
+      rw (turns-add p k row_added x, ← o)
+      (g
+      ∙ rw (ef, en, ec, ew, eu, b.fits.1, b.fits.2, part_length p k weights h)
+      (turns_same k _ _ y (λ i v. rw (get_or-take, get_or-drop, part_chunk, part_chunk))))
 
-module _ (weights : List Float) (cells scales : List ℕ) (d : ℕ) (h : ScoredRows 0 d (length weights) (length cells) (length scales)) where
-  -- k rows from row p on lie in the cells
-  pub f32_inside : (p k : ℕ) → p + k ≤ length weights → p * (d * 4) + k * (d * 4) ≤ length cells
-  f32_inside p k b = (rows_inside p k {v = scale_words_of 0 d} (fits_facts h.1) (bytes d) refl b).0
+-- place d with the terms of four rows
+abbrev pub with_four : List Float → List ℕ → List Float → ℕ → Float
+with_four weights cells l d =
+    turns 4 (λ i sum. add binary32 sum (f32_term (get_or weights i nan) cells (i * length l + d))) (get_or l d nan)
 
-  pub f32_count : (p k : ℕ) (x : List ℕ) → p + k ≤ length weights → x ≡ part (p * (d * 4)) (k * (d * 4)) cells → length x ≡ k * (d * 4)
-  f32_count p k x b e = rw e (part_length (p * (d * 4)) (k * (d * 4)) cells (f32_inside p k b))
-
-  -- they are a block of their own
-  pub f32_some : (p k : ℕ) {x : List ℕ} → p + k ≤ length weights → x ≡ part (p * (d * 4)) (k * (d * 4)) cells → ScoredRows 0 d k (length x) (length scales)
-  f32_some p k b e =
-      some_rows 0 d (length weights) (length cells) (length scales) k h (omega arith)
-      (rw (f32_count p k _ b e, bytes d))
-      (rw ((fits_facts h.1).scale-words, no_words d (length weights), no_words d k))
-
-  -- and their terms, added to the rows before them, are the block's up to the last of them
-  abbrev add_row_of : ℕ → List Float → List Float
-  add_row_of i = added (block_term 0 weights (buffers cells scales) d i)
-
-  part-term : (p k i : ℕ) → i < k
-      → block_term 0 (part p k weights) (buffers (part (p * cell_bytes_of 0 d) (k * cell_bytes_of 0 d) cells) scales) d i ≡ block_term 0 weights (buffers cells scales) d (p + i)
-  unfolding row_term scorings
-  part-term p k i w = rw (get_or-take k _ i nan w, get_or-drop p weights i nan, part_chunk (cell_bytes_of 0 d) p k i cells w)
-
-  pub f32_after : (p k : ℕ) (x : List Float) {u y z : List Float} {a : List ℕ} → p + k ≤ length weights → length y ≡ d → u ≡ part p k weights
-      → a ≡ part (p * (d * 4)) (k * (d * 4)) cells → y ≡ turns p add_row_of x
-      → z ≡ turns (length u) (λ i. added (block_term 0 u (buffers a scales) (length y) i)) y → z ≡ turns (p + k) add_row_of x
-  f32_after p k x {u} {y} b l eu ea o e =
-      rw (turns-add p k add_row_of x, ← o)
-      (e ∙ rw (eu, ea, bytes d, l, part_length p k weights b) (turns_same k _ _ y (λ i w. rw (part-term p k i w))))
-
--- two rows of four, from row i on
-abbrev pub half : ℕ → List ℕ → List ℕ
-half i l = part (i * (length l / 4)) (2 * (length l / 4)) l
-
--- number k of them is number d of row p, where it lies there
-row_number : (n : ℕ) (cells : List ℕ) {r : List ℕ} (i p k d : ℕ) → length cells / 4 ≡ n * 4 → r ≡ half i cells → d < n → k < 2 * n
-    → i * (n * 4) + k * 4 ≡ p * (n * 4) + d * 4 → f32_at r k ≡ f32_at (part (p * cell_bytes_of 0 n) (cell_bytes_of 0 n) cells) d
-row_number n cells i p k d q e b w s =
-    let x : k * 4 + 4 ≤ 2 * (n * 4) = omega arith in
-    let y : d * 4 + 4 ≤ n * 4 = omega arith in
-    rw (e, q, ← bytes n, part-part (i * (n * 4)) (2 * (n * 4)) (k * 4) 4 cells x, part-part (p * (n * 4)) (n * 4) (d * 4) 4 cells y, s)
-
--- terms that agree, added
-added_same : (l : List Float) (t t' : ℕ → Float) → ((i : ℕ) → i < length l → t i ≡ t' i) → added t l ≡ added t' l
-unfolding added
-added_same l t t' e = tab_same (length l) _ _ (λ i b. rw (e i b))
-
-added-length : (t : ℕ → Float) (l : List Float) → length (added t l) ≡ length l
-unfolding added
-added-length t l = tab-length (length l) _
-
--- the four terms of each sum are those of a block of four
-module _ (cells scales : List ℕ) (l : List Float) (h : ScoredRows 0 (length l) 4 (length cells) (length scales)) (weights : List Float) where
-  abbrev with : ℕ → List Float → List Float
-  with p = added (block_term 0 weights (buffers cells scales) (length l) p)
-
-  with_row : (i p : ℕ) {r : List ℕ} (k : ℕ → ℕ) (x : List Float) → length x ≡ length l → r ≡ half i cells
-      → ((d : ℕ) → d < length l → (k d < 2 * length l) × (i * (length l * 4) + k d * 4 ≡ p * (length l * 4) + d * 4))
-      → added (λ d. f32_term (get_or weights p nan) r (k d)) x ≡ with p x
-  unfolding row_term scorings
-  with_row i p k x s e f =
-      let q : length cells / 4 ≡ length l * 4 = omega (arith, rw (← bytes (length l)) at (fits_facts h.1).cell-bytes) in
-      added_same x _ _ (λ d b. let c : d < length l = omega arith in rw (row_number (length l) cells i p (k d) d q e c (f d c).0 (f d c).1))
-
-  pub four_rows : {r0 r2 : List ℕ} {y : List Float} → length weights ≡ 4 → r0 ≡ half 0 cells → r2 ≡ half 2 cells
-      → y
-      ≡ added (λ d. f32_term (get_or weights 3 nan) r2 (length l + d))
-      (added (f32_term (get_or weights 2 nan) r2)
-      (added (λ d. f32_term (get_or weights 1 nan) r0 (length l + d)) (added (f32_term (get_or weights 0 nan) r0) l)))
-      → y ≡ turns (length weights) with l
-  unfolding turns
-  four_rows {r0} {r2} w e0 e2 o =
-      let n = length l in
-      let s0 = with_row 0 0 {r = r0} (λ d. d) l refl e0 (λ d b. (omega arith, omega arith)) in
-      let s1 = with_row 0 1 {r = r0} (λ d. n + d) (with 0 l) (simp added-length) e0 (λ d b. (omega arith, omega arith)) in
-      let s2 = with_row 2 2 {r = r2} (λ d. d) (with 1 (with 0 l)) (simp added-length) e2 (λ d b. (omega arith, omega arith)) in
-      let s3 = with_row 2 3 {r = r2} (λ d. n + d) (with 2 (with 1 (with 0 l))) (simp added-length) e2 (λ d b. (omega arith, omega arith)) in
-      o ∙ rw (s0, s1, s2, s3, w)
+-- the terms of four F32 rows are those of a block of four
+pub four_rows : (weights : List Float) (cells scales : List ℕ) (l : List Float)
+    → turns 4 (λ i. added (λ d. f32_term (get_or weights i nan) cells (i * length l + d))) l
+    ≡ turns 4 (λ p. added (block_term 0 weights (buffers cells scales) (length l) p)) l
+unfolding row_term scorings
+four_rows weights cells scales l =
+    let n = length l in
+    let term : ℕ → ℕ → Float = λ i d. f32_term (get_or weights i nan) cells (i * n + d) in
+    turns_same 4 _ _ l
+    (λ i b. added_same _ _ _ (λ d h. let v : d < n = omega (arith, rows_length i term l) in rw (f32_bytes n, row_number n cells i d v)))

@@ -5,16 +5,13 @@ pub(crate) mod fours;
 pub(crate) mod rest;
 pub(crate) mod stored;
 
-ghost use Rattle.std.specs.Prelude.{◌≡◌, map, length, replicate};
-ghost use Rattle.lists.specs.Chunks.{turns};
-ghost use Rattle.numbers.specs.Word.{float, word};
+ghost use Rattle.std.specs.Prelude.{◌≡◌, map, length};
+ghost use Rattle.numbers.specs.Word.{word};
 ghost use Rattle.shapes.specs.Buffers.{buffers};
 ghost use Rattle.replies.specs.Tried.{tells};
-ghost use Rattle.attention.specs.Order.{added};
-ghost use Rattle.attention.specs.Block.{block_term, sums_of_block, block_sums_of};
-ghost use Rattle.attention.specs.Fits.{ScoredRows};
+ghost use Rattle.attention.specs.Block.{rows_added, sums_of_block, block_sums_of};
 
-use attention::block_fits;
+use attention::block::Block;
 use fours::add_f32_rows;
 use numbers::words::f32_to_word;
 use rest::add_rest;
@@ -30,53 +27,43 @@ pub fn block_sums(
     ensures { tells result out.new
         ≡ block_sums_of format weights.now (buffers cells.now scales.now) out.old }
 {
-    if !block_fits(format, out.len(), weights.len(), cells.len(), scales.len()) {
+    let Some(block) = Block::of(format, out.len(), weights.len(), cells, scales) else {
         return false;
-    }
-    sum_rows(format, weights, cells, scales, out);
+    };
+    sum_rows(&block, weights, out);
     true
 }
 
 // The sums grow in an array of floats, and leave as words.
-fn sum_rows(format: u32, weights: &[f32], cells: &[u8], scales: &[u32], out: &mut [u32])
-    requires { ScoredRows format (length out.old) (length weights.now) (length cells.now) (length scales.now) }
+fn sum_rows(block: &Block, weights: &[f32], out: &mut [u32])
+    requires { (block.now.numbers ≡ length out.old) × (block.now.rows ≡ length weights.now) }
     ensures { out.new
-        ≡ sums_of_block format weights.now (buffers cells.now scales.now) (length out.old) }
+        ≡ sums_of_block block.now.format weights.now (buffers block.now.cells.now block.now.scales.now) block.now.numbers }
 {
     let d = out.len();
-    let mut sums = no_sums();
-    add_rows(format, weights, cells, scales, &mut sums[0..d]);
-    put_sums(&sums[0..d], out);
-}
-
-fn no_sums() -> [f32; 256]
-    ensures { result ≡ replicate 256 (float 0) }
-{
-    [0.0; 256]
+    let mut sums = [0.0; 256];
+    add_rows(block, weights, &mut sums[..d]);
+    put_sums(&sums[..d], out);
 }
 
 fn put_sums(sums: &[f32], out: &mut [u32])
     requires { length out.old ≡ length sums.now }
     ensures { out.new ≡ map word sums.now }
 {
-    let mut i = 0;
-    while i < out.len() {
-        out[i] = f32_to_word(sums[i]);
-        i += 1;
+    for (i, sum) in sums.iter().enumerate() {
+        out[i] = f32_to_word(*sum);
     }
 }
 
 // Adds the terms of each position to what is there.
-fn add_rows(format: u32, weights: &[f32], cells: &[u8], scales: &[u32], out: &mut [f32])
-    requires { ScoredRows format (length out.old) (length weights.now) (length cells.now) (length scales.now) }
+fn add_rows(block: &Block, weights: &[f32], out: &mut [f32])
+    requires { (block.now.numbers ≡ length out.old) × (block.now.rows ≡ length weights.now) }
     ensures { out.new
-        ≡ turns (length weights.now)
-        (λ p. added (block_term format weights.now (buffers cells.now scales.now) (length out.old) p))
-        out.old }
+        ≡ rows_added block.now.format weights.now (buffers block.now.cells.now block.now.scales.now) block.now.numbers out.old }
 {
-    if format == 0 {
-        add_f32_rows(weights, cells, scales, out);
+    if block.format == 0 {
+        add_f32_rows(block, weights, out);
         return;
     }
-    add_rest(format, weights, cells, scales, out);
+    add_rest(block, weights, out);
 }

@@ -6,16 +6,7 @@ ghost use Rattle.lists.specs.Chunks.{turns};
 ghost use Rattle.numbers.specs.Word.{float};
 ghost use Rattle.rows.specs.Row.{f32_at};
 
-use decode::word_of;
-
-// The word of number `d` of an F32 row.
-pub(crate) fn word_at(cells: &[u8], d: usize) -> u32
-    requires { d * 4 + 4 ≤ length cells.now }
-    ensures { result ≡ f32_at cells.now d }
-{
-    let a = d * 4;
-    word_of(&cells[a..a + 4])
-}
+use attention::block::word_at;
 
 // Number `d` of an F32 row that is no NaN.
 pub(crate) fn plain_at(cells: &[u8], d: usize) -> f32
@@ -43,10 +34,8 @@ pub(crate) fn nans(cells: &[u8], n: usize) -> u32
     ensures { result ≡ turns n (λ d nans. nans + cond (nan_bits binary32 (f32_at cells.now d)) 1 0) 0 }
 {
     let mut count = 0;
-    let mut d = 0;
-    while d < n {
+    for d in 0..n {
         count += nan_at(cells, d);
-        d += 1;
     }
     count
 }

@@ -1,16 +1,12 @@
--- The test decides: where the block does not fit the output is as it was, and where it fits it is the block's.
-use Rattle.replies.proofs.Flags.{both, passed, failed}
+-- Where the block does not fit the output is as it was, and where it fits it is the block's.
 use Rattle.replies.proofs.Tried.{tried-done}
 use Rattle.attention.specs.Block.{block_scores_of}
 use Rattle.scores.proofs.block_scores.Goals as goal
 
-pub returns-then-not-block_fits : goal.returns-then-not-block_fits
+pub returns-in_default : goal.returns-in_default
 unfolding block_scores_of
-returns-then-not-block_fits c = rw (failed c.block_fits.ensures c.if-not-block_fits.true)
-
-pub score_rows-requires : goal.score_rows-requires
-score_rows-requires c = both _ _ (passed c.block_fits.ensures c.if-not-block_fits.false)
+returns-in_default c = rw c.in_default.ensures
 
 pub returns : goal.returns
 unfolding block_scores_of
-returns c = tried-done _ _ (passed c.block_fits.ensures c.if-not-block_fits.false) c.score_rows.ensures
+returns c = let h = c.in-Some.ensures in tried-done _ _ h.0 (rw (h.1, h.4, h.5) at c.score_rows.ensures)

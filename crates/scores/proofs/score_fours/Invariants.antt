@@ -1,15 +1,12 @@
--- The scores passed are those of the rows passed, and what is left is as it was.
+-- The scores passed are those of the rows passed, four by four, and what is left is as it was.
 use mathlib.Core.Path.{◌≡◌}
 use mathlib.Core.List.{◌++◌}
-use Prim.Native.Nat.{◌-◌, ◌≤◌}
-use lib.ListN.{length, drop}
+use Prim.Native.Nat.{◌*◌}
+use lib.ListN.{drop}
 use Rattle.lists.specs.Chunks.{tab}
 use Rattle.attention.proofs.PartLaws.{score_at}
 use Rattle.scores.proofs.score_fours.Given as goal
 
-abbrev pub invariant-loop-out : goal.invariant-loop-out
-invariant-loop-out l =
-    (l.p ≤ length l.initial.out) × (l.out ≡ tab l.p (score_at l.format l.query l.scale l.cells l.scales) ++ drop l.p l.initial.out) × (length l.out ≡ length l.initial.out)
-
-abbrev pub decreases-loop-out : goal.decreases-loop-out
-decreases-loop-out l = length l.initial.out - l.p
+abbrev pub invariant-loop-k : goal.invariant-loop-k
+invariant-loop-k l =
+    l.out ≡ tab (l.k * 4) (score_at l.block.format l.query l.scale l.block.cells.now l.block.scales.now) ++ drop (l.k * 4) l.initial.out

@@ -1,19 +1,18 @@
 -- The words passed are those of the sums passed, and what is left is as it was.
 use mathlib.Core.Path.{refl, sym, ◌∙◌}
 use native.Mathlib.Omega.{arith}
-use borrow.Author.Rules.{rules}
 use Rattle.lists.specs.Chunks.{tab}
 use Rattle.lists.proofs.Tab.{tab-set, tab-done}
-use Rattle.attention.proofs.OrderLaws.{words-tab}
+use Rattle.numbers.specs.Word.{word}
+use Rattle.attention.proofs.OrderLaws.{mapped-tab}
 use Rattle.sums.proofs.put_sums.Goals as goal
 
 pub loop-i-init : goal.loop-i-init
 unfolding tab
-loop-i-init c = (refl, omega arith, refl)
+loop-i-init c = refl
 
 pub loop-i-preserved : goal.loop-i-preserved
-loop-i-preserved c = (tab-set _ _ _ (omega arith) c.loop-i.invariant.0 c.f32_to_word.ensures, omega arith, search rules)
+loop-i-preserved c = tab-set _ _ _ (omega arith) c.loop-i.invariant c.f32_to_word.ensures
 
 pub returns : goal.returns
-returns c =
-    tab-done _ _ _ c.loop-i.invariant.0 (omega arith) c.requires ∙ sym (words-tab c.args.sums.now)
+returns c = tab-done _ _ _ c.loop-i.invariant (omega arith) c.requires ∙ sym (mapped-tab word c.args.sums.now)

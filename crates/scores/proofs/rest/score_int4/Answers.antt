@@ -1,8 +1,8 @@
 -- The total so far is that of the groups passed.
+use mathlib.Core.Path.{refl}
 use Prim.Native.Nat.{◌*◌}
 use native.Mathlib.Nat.{add-sub_cancel_left}
 use native.Mathlib.Omega.{arith}
-use borrow.Author.Rules.{rules}
 use Rattle.lists.specs.Chunks.{turns}
 use Rattle.attention.specs.Order.{summed}
 use Rattle.attention.proofs.OrderLaws.{summed_next}
@@ -11,14 +11,14 @@ use Rattle.scores.proofs.rest.score_int4.Goals as goal
 
 pub loop-g-init : goal.loop-g-init
 unfolding summed turns
-loop-g-init c = search rules
+loop-g-init c = refl
 
 pub loop-g-preserved : goal.loop-g-preserved
 loop-g-preserved c =
-    let loop = c.loop-g in
-    let query = add-sub_cancel_left (loop.g * 32) 32 in
-    let cells = add-sub_cancel_left (loop.g * 16) 16 in
-    (omega arith, summed_next _ _ loop.invariant.1 (rw (c.dot_group-total.ensures, c.word_to_f32.ensures, query, cells)))
+    let g = c.loop-g.g in
+    let query = add-sub_cancel_left (g * 32) 32 in
+    let cells = add-sub_cancel_left (g * 16) 16 in
+    summed_next _ _ c.loop-g.invariant (rw (c.dot_group-total.ensures, c.word_to_f32.ensures, query, cells))
 
 pub returns : goal.returns
-returns c = groups_all _ _ _ _ c.loop-g.g c.loop-g.invariant.1 (omega arith)
+returns c = groups_all _ _ _ _ c.loop-g.g c.loop-g.invariant (omega arith)

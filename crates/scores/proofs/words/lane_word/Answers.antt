@@ -9,17 +9,14 @@ use Rattle.decode.proofs.DecodeLaws.{word_lent}
 use Rattle.scores.proofs.WordLaws.{word_turn}
 use Rattle.scores.proofs.words.lane_word.Goals as goal
 
-pub returns : goal.returns
+pub loop-k-init : goal.loop-k-init
 unfolding turns
-returns c =
+loop-k-init c = refl
+
+pub loop-k-preserved : goal.loop-k-preserved
+loop-k-preserved c =
     let args = c.args in
-    let query = args.query.now in
     let bytes = args.bytes.now in
-    let i = args.i in
-    let x = args.sum in
     let below : (n : ℕ) → get_or bytes n 0 < 256 = λ n. (c.type_inv.bytes n).fits in
-    let word : c.word_of-word.result ≡ from_little (part i 4 bytes) = word_lent bytes i c.word_of-word.ensures (omega arith) in
-    let a = word_turn bytes i below query x word 0 (omega arith) refl c.lane_byte-a.ensures (omega arith) (omega arith) in
-    let b = word_turn bytes i below query x word 1 (omega arith) a c.lane_byte-b.ensures refl (omega arith) in
-    let d = word_turn bytes i below query x word 2 (omega arith) b c.lane_byte-c.ensures refl (omega arith) in
-    word_turn bytes i below query x word 3 (omega arith) d c.lane_byte.ensures refl (omega arith)
+    let word : c.word_of-word.result ≡ from_little (part args.i 4 bytes) = word_lent bytes args.i c.word_of-word.ensures (omega arith) in
+    word_turn bytes args.i below args.query.now args.sum word c.loop-k.k (omega arith) c.loop-k.invariant c.lane_byte-next.ensures refl refl

@@ -3,7 +3,6 @@ use mathlib.Core.Path.{refl}
 use Prim.Native.Nat.{◌*◌}
 use native.Mathlib.Nat.{add-sub_cancel_left}
 use native.Mathlib.Omega.{arith}
-use borrow.Author.Rules.{rules}
 use Rattle.lists.specs.Chunks.{tab}
 use Rattle.attention.proofs.OrderLaws.{added_lent, added-all}
 use Rattle.sums.proofs.RowLaws.{group-term}
@@ -11,18 +10,14 @@ use Rattle.sums.proofs.rest.add_int4.Goals as goal
 
 pub loop-g-init : goal.loop-g-init
 unfolding tab
-loop-g-init c = search rules
+loop-g-init c = refl
 
 pub loop-g-preserved : goal.loop-g-preserved
 loop-g-preserved c =
     let start = c.args in
-    let loop = c.loop-g in
-    let e = c.word_to_f32.ensures in (
-      omega arith,
-      added_lent _ start.out.now (loop.g * 32) 32 _ loop.invariant.1 refl (omega arith) (omega arith)
-          (λ i b. rw (e, add-sub_cancel_left) (group-term _ start.cells.now start.scales.now loop.g i b)) c.add_group.ensures,
-      search rules,
-    )
+    let g = c.loop-g.g in
+    added_lent _ start.out.now (g * 32) 32 _ c.loop-g.invariant refl (omega arith) (omega arith)
+    (λ i b. rw (c.word_to_f32.ensures, add-sub_cancel_left) (group-term _ start.cells.now start.scales.now g i b)) c.add_group.ensures
 
 pub returns : goal.returns
-returns c = added-all _ _ c.loop-g.invariant.1 (omega arith)
+returns c = added-all _ _ c.loop-g.invariant (omega arith)

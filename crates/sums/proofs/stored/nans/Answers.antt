@@ -1,7 +1,6 @@
 -- The NaNs passed are counted.
-use mathlib.Core.Path.{◌≡◌}
+use mathlib.Core.Path.{refl}
 use native.Mathlib.Omega.{arith}
-use borrow.Author.Rules.{rules}
 use Rattle.lists.specs.Chunks.{turns}
 use Rattle.lists.proofs.Some.{sum_most}
 use Rattle.lists.proofs.Turns.{turns_next}
@@ -10,7 +9,7 @@ use Rattle.sums.proofs.stored.nans.Goals as goal
 
 pub loop-d-init : goal.loop-d-init
 unfolding turns
-loop-d-init c = search rules
+loop-d-init c = refl
 
 pub overflow_add-count : goal.overflow_add-count
 overflow_add-count c =
@@ -19,7 +18,4 @@ overflow_add-count c =
     omega (arith, sum_most k.d 1 (nan_count cells) (one_at_most cells), one_at_most cells k.d, c.nan_at-count.ensures)
 
 pub loop-d-preserved : goal.loop-d-preserved
-loop-d-preserved c = (omega arith, turns_next _ _ 0 c.loop-d.invariant.1 (rw c.nan_at-count.ensures))
-
-pub returns : goal.returns
-returns c = let e : c.loop-d.d ≡ c.args.n = omega arith in rw e at c.loop-d.invariant.1
+loop-d-preserved c = turns_next _ _ 0 c.loop-d.invariant (rw c.nan_at-count.ensures)

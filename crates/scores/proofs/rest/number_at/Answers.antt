@@ -1,8 +1,0 @@
--- The four bytes that are lent are those of number d.
-use Prim.Native.Nat.{◌*◌}
-use Rattle.decode.proofs.DecodeLaws.{word_lent}
-use Rattle.scores.proofs.rest.number_at.Goals as goal
-
-pub returns : goal.returns
-returns c =
-    rw (c.word_to_f32.ensures, word_lent c.args.cells.now (c.args.d * 4) c.word_of.ensures c.requires)

@@ -1,6 +1,0 @@
--- What is lent is as long as it is said to be.
-use native.Mathlib.Nat.{add-sub_cancel_left}
-use Rattle.sums.proofs.rest.cells_of.Goals as goal
-
-pub returns : goal.returns
-returns c = rw add-sub_cancel_left
