@@ -37,6 +37,7 @@ fn int4(rt: &impl Print, run: &[u32]) -> io::Result<()> {
 fn packed(rt: &impl Print, group: &[u32], scale: f32) -> io::Result<()> {
     let mut bytes = [0u8; 16];
     let mut back = [0u32; 32];
+    // Both have a group's lengths, so neither is refused.
     let _ = groups::pack_i4_group(group, scale, &mut bytes);
     let _ = groups::unpack_i4_group(&bytes, scale, &mut back);
     rt.write_all(b" bytes")?;

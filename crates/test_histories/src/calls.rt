@@ -2,7 +2,7 @@
 use std::alloc::{AllocError, Global};
 
 // The most numbers that a line gives to a call.
-const MOST_NUMBERS: usize = 256;
+const MOST_GIVEN: usize = 256;
 
 // The words that a store's shape has on the boundary.
 #[derive(Clone, Copy)]
@@ -152,5 +152,5 @@ impl<'a> From<&'a [u32]> for Call<'a> {
 // The numbers from word `k` on.
 fn numbers_from(words: &[u32], k: usize) -> &[u32] {
     let rest = words.get(k..).unwrap_or(&[]);
-    rest.get(..MOST_NUMBERS).unwrap_or(rest)
+    rest.get(..MOST_GIVEN).unwrap_or(rest)
 }

@@ -5,10 +5,11 @@ use std::alloc::{AllocError, Global};
 use std::io;
 use std::iter::repeat;
 
-// The most layers that are followed, and the most numbers of a side in one.
+// The most layers that are followed.
 const MOST_LAYERS: usize = 8;
 
-const MOST_NUMBERS: usize = 512;
+// The most numbers of a side in one.
+const MOST_KEPT: usize = 512;
 
 // A layer's keys and values of accepted calls that no later one removed.
 #[derive(Drop)]
@@ -35,26 +36,22 @@ impl Survivors {
         Ok(Survivors { layers })
     }
 
-    // Puts `count` keys and as many values after those of a layer, 0 for each that the numbers lack, or answers that they do not fit.
+    // Puts `count` keys and as many values after those of a layer, 0 for each that is not given; false where they do not fit.
     pub(crate) fn append(
         &mut self,
         layer: u32,
         count: usize,
-        numbers: &[u32],
+        keys: &[u32],
+        values: &[u32],
     ) -> Result<bool, AllocError> {
         let Some(layer) = self.layers.get_mut(layer as usize) else {
             return Ok(false);
         };
-        if MOST_NUMBERS < layer.keys.len().saturating_add(count) {
+        if MOST_KEPT < layer.keys.len().saturating_add(count) {
             return Ok(false);
         }
-        let (keys, values) = numbers.split_at(count.min(numbers.len()));
-        layer
-            .keys
-            .extend(keys.iter().copied().chain(repeat(0)).take(count))?;
-        layer
-            .values
-            .extend(values.iter().copied().chain(repeat(0)).take(count))?;
+        extend(&mut layer.keys, keys, count)?;
+        extend(&mut layer.values, values, count)?;
         Ok(true)
     }
 
@@ -65,6 +62,10 @@ impl Survivors {
             layer.values.truncate(kept);
         }
     }
+}
+
+fn extend(side: &mut Vec<u32>, numbers: &[u32], count: usize) -> Result<(), AllocError> {
+    side.extend(numbers.iter().copied().chain(repeat(0)).take(count))
 }
 
 // The store against a fresh one of its shape, in as much other memory, that got the survivors of each layer in one call.

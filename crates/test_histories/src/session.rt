@@ -7,9 +7,10 @@ use numbers::words::word_to_f32;
 use std::alloc::{AllocError, Global};
 use std::io;
 
-// What an output holds before a call, and the most places that one has.
+// What an output holds before a call.
 const UNWRITTEN: u32 = 0xFF80_DEAD;
 
+// The most places of an output.
 const MOST_PLACES: usize = 256;
 
 #[derive(Drop)]
@@ -45,7 +46,7 @@ impl Session {
                 let (keys, values) = numbers.split_at(count.min(numbers.len()));
                 let reply = self.store.append(layer, keys, values);
                 if reply == 0 {
-                    self.keep(layer, count, numbers)?;
+                    self.keep(layer, count, keys, values)?;
                 }
                 self.tell(rt, reply)
             }
@@ -136,9 +137,15 @@ impl Session {
     }
 
     // The keys and values of an accepted append survive.
-    fn keep(&mut self, layer: u32, count: usize, numbers: &[u32]) -> Result<(), AllocError> {
+    fn keep(
+        &mut self,
+        layer: u32,
+        count: usize,
+        keys: &[u32],
+        values: &[u32],
+    ) -> Result<(), AllocError> {
         if let Some(survivors) = &mut self.survivors
-            && !survivors.append(layer, count, numbers)?
+            && !survivors.append(layer, count, keys, values)?
         {
             self.survivors = None;
         }
