@@ -14,36 +14,27 @@ fn main(rt: HostRuntime) -> io::Result<()> {
 }
 
 // One name after the other.
-#[tactic(auto, using(test_lines::proofs::LineLaws::line_in))]
 fn play_named(rt: &(impl Files + Print), names: &[u8]) -> io::Result<()> {
-    let mut at = 0;
-    while at < names.len() {
-        let n = test_lines::line_length(names, at);
-        name(rt, &names[at..at + n])?;
-        at = at + n + 1;
+    for line in names.split_inclusive(|b| *b == b'\n') {
+        play_file(rt, line.strip_suffix(b"\n").unwrap_or(line))?;
     }
     Ok(())
 }
 
-// A name that is no text is no file's.
-fn name(rt: &(impl Files + Print), path: &[u8]) -> io::Result<()> {
-    rt.write_all(path)?;
+fn play_file(rt: &(impl Files + Print), name: &[u8]) -> io::Result<()> {
+    rt.write_all(name)?;
     rt.write_all(b"\n")?;
-    match str::from_utf8(path) {
-        Ok(text) => play_at(rt, text),
-        Err(_) => rt.write_all(b"missing\n"),
-    }
+    let Some(mut file) = open(rt, name) else {
+        return rt.write_all(b"missing\n");
+    };
+    let mut space = [0u8; 65_536];
+    let n = reading::read_full(&mut file, &mut space);
+    start(rt, &space[..n])
 }
 
-fn play_at(rt: &(impl Files + Print), path: &str) -> io::Result<()> {
-    match File::open(rt, path) {
-        Ok(mut file) => {
-            let mut space = [0u8; 65_536];
-            let n = reading::read_full(&mut file, &mut space);
-            start(rt, &space[..n])
-        }
-        Err(_) => rt.write_all(b"missing\n"),
-    }
+// A name that is no text is no file's.
+fn open<R: Files>(rt: &R, name: &[u8]) -> Option<R::File> {
+    File::open(rt, str::from_utf8(name).ok()?).ok()
 }
 
 #[tactic(auto, using(printing::proofs::LaidLaws::laid_in))]

@@ -1,43 +1,32 @@
 // Runs of words in hex, as lines of text.
+use std::alloc::{AllocError, Global};
 
-// How many words a line has, and where the next line begins; `next` is 0 for a line that is no run.
-#[derive(Clone, Copy)]
-pub(crate) struct Line {
-    pub count: usize,
-    pub next: usize,
+// The most words of a run.
+const MOST: usize = 64;
+
+// The words of a line: a space between two, and a line feed after the last. None for a line that is no run.
+pub(crate) fn run_of(alloc: Global, line: &[u8]) -> Result<Option<Vec<u32>>, AllocError> {
+    let Some(line) = line.strip_suffix(b"\n") else {
+        return Ok(None);
+    };
+    let mut run = Vec::new(alloc);
+    if line.is_empty() {
+        return Ok(Some(run));
+    }
+    for digits in line.split(|b| *b == b' ') {
+        match word_of(digits) {
+            Some(word) if run.len() < MOST => run.push(word)?,
+            _ => return Ok(None),
+        }
+    }
+    Ok(Some(run))
 }
 
-// The run whose line begins at `at`: its words go to the front of `words`.
-pub(crate) fn run_at(text: &[u8], at: usize, words: &mut [u32; 64]) -> Line {
-    if text.len() <= at {
-        return Line { count: 0, next: 0 };
+// The word of 8 digits.
+fn word_of(digits: &[u8]) -> Option<u32> {
+    if digits.len() == 8 {
+        u32::try_from(test_lines::hex_at(digits, 0)).ok()
+    } else {
+        None
     }
-    if text[at] == b'\n' {
-        return Line {
-            count: 0,
-            next: at + 1,
-        };
-    }
-    let mut place = at;
-    let mut count = 0;
-    while count < 64 {
-        if text.len() - place < 9 {
-            return Line { count: 0, next: 0 };
-        }
-        let w = test_lines::hex_at(text, place);
-        if 0xFFFF_FFFF < w {
-            return Line { count: 0, next: 0 };
-        }
-        words[count] = w as u32;
-        let end = text[place + 8];
-        count += 1;
-        place += 9;
-        if end == b'\n' {
-            return Line { count, next: place };
-        }
-        if end != b' ' {
-            return Line { count: 0, next: 0 };
-        }
-    }
-    Line { count: 0, next: 0 }
 }

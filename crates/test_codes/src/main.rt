@@ -14,20 +14,15 @@ fn main(rt: HostRuntime) -> io::Result<()> {
 }
 
 // One run after the other, up to the end or to the first line that is no run.
-fn play(rt: &impl Print, text: &[u8]) -> io::Result<()> {
-    let mut words = [0u32; 64];
-    let mut at = 0;
-    while at < text.len() {
-        let line = input::run_at(text, at, &mut words);
-        if line.next <= at {
-            return bad(rt, at);
-        }
-        show::run(rt, &words, line.count)?;
-        at = line.next;
+fn play(rt: &(impl Print + AllocGlobal), text: &[u8]) -> io::Result<()> {
+    let mut rest = text;
+    while let Some(line) = rest.split_inclusive(|b| *b == b'\n').next() {
+        let Some(run) = input::run_of(rt.alloc(), line)? else {
+            let at = text.len() - rest.len();
+            return println!(rt; "bad at {at}");
+        };
+        show::run(rt, &run)?;
+        rest = &rest[line.len()..];
     }
     Ok(())
-}
-
-fn bad(rt: &impl Print, at: usize) -> io::Result<()> {
-    println!(rt; "bad at {at}")
 }

@@ -2,26 +2,8 @@
 use numbers::{codes, scales, words};
 use std::io;
 
-// What is shown of each number.
-#[derive(Clone, Copy)]
-enum Shown {
-    Code8,
-    Read8,
-    Half,
-    ReadHalf,
-    Word,
-}
-
-// The three lines of the first `count` words.
-pub(crate) fn run(rt: &impl Print, words: &[u32; 64], count: usize) -> io::Result<()> {
-    lines(rt, words, count)
-}
-
-fn lines(rt: &impl Print, words: &[u32], count: usize) -> io::Result<()> {
-    if words.len() < count {
-        return Ok(());
-    }
-    let run = &words[0..count];
+// The three lines of a run.
+pub(crate) fn run(rt: &impl Print, run: &[u32]) -> io::Result<()> {
     int8(rt, run)?;
     int4(rt, run)?;
     bf16(rt, run)
@@ -29,77 +11,63 @@ fn lines(rt: &impl Print, words: &[u32], count: usize) -> io::Result<()> {
 
 fn int8(rt: &impl Print, run: &[u32]) -> io::Result<()> {
     let scale = scales::compute_int8_scale(run);
+    let code = |x: u32| codes::quantize_i8(x, scale);
     rt.write_all(b"int8 scale")?;
     field(rt, words::f32_to_word(scale), 8)?;
     rt.write_all(b" codes")?;
-    fields(rt, run, scale, Shown::Code8)?;
+    fields(rt, run, 2, |x| u32::from(code(x)))?;
     rt.write_all(b" reads")?;
-    fields(rt, run, scale, Shown::Read8)?;
+    fields(rt, run, 8, |x| {
+        words::f32_to_word(codes::dequantize_i8(code(x), scale))
+    })?;
     rt.write_all(b"\n")
 }
 
 fn int4(rt: &impl Print, run: &[u32]) -> io::Result<()> {
-    if run.len() < 32 {
+    let Some(group) = run.get(..32) else {
         return rt.write_all(b"int4 no 7\n");
-    }
-    let scale = scales::compute_int4_scale(&run[0..32]);
+    };
+    let scale = scales::compute_int4_scale(group);
     rt.write_all(b"int4 scale")?;
     field(rt, words::f32_to_word(scale), 8)?;
-    group(rt, run, scale)
+    packed(rt, group, scale)
 }
 
-// The bytes of a run's first group, and what they read as.
-fn group(rt: &impl Print, run: &[u32], scale: f32) -> io::Result<()> {
+// The bytes of a group, and what they read as.
+fn packed(rt: &impl Print, group: &[u32], scale: f32) -> io::Result<()> {
     let mut bytes = [0u8; 16];
     let mut back = [0u32; 32];
-    groups::pack_i4_group(run, scale, &mut bytes);
-    groups::unpack_i4_group(&bytes, scale, &mut back);
+    // Both have a group's lengths, so neither is refused.
+    let _ = groups::pack_i4_group(group, scale, &mut bytes);
+    let _ = groups::unpack_i4_group(&bytes, scale, &mut back);
     rt.write_all(b" bytes")?;
-    byte_fields(rt, &bytes)?;
+    fields(rt, &bytes, 2, |b| u32::from(b))?;
     rt.write_all(b" reads")?;
-    fields(rt, &back, scale, Shown::Word)?;
+    fields(rt, &back, 8, |x| x)?;
     rt.write_all(b"\n")
 }
 
 fn bf16(rt: &impl Print, run: &[u32]) -> io::Result<()> {
     rt.write_all(b"bf16 halves")?;
-    fields(rt, run, 1.0, Shown::Half)?;
+    fields(rt, run, 4, |x| u32::from(words::f32_to_bf16(x)))?;
     rt.write_all(b" reads")?;
-    fields(rt, run, 1.0, Shown::ReadHalf)?;
+    fields(rt, run, 8, |x| words::bf16_to_f32(words::f32_to_bf16(x)))?;
     rt.write_all(b"\n")
 }
 
-// One thing of each number of a run.
-fn fields(rt: &impl Print, run: &[u32], scale: f32, shown: Shown) -> io::Result<()> {
-    for x in run {
-        tell(rt, *x, scale, shown)?;
+// What is shown of each number.
+fn fields<T: Copy, F: Fn(T) -> u32>(
+    rt: &impl Print,
+    numbers: &[T],
+    width: usize,
+    shown: F,
+) -> io::Result<()>
+    requires { F.IsAlwaysCallable shown }
+{
+    for x in numbers {
+        field(rt, shown(*x), width)?;
     }
     Ok(())
-}
-
-fn byte_fields(rt: &impl Print, bytes: &[u8]) -> io::Result<()> {
-    for b in bytes {
-        byte_field(rt, *b)?;
-    }
-    Ok(())
-}
-
-fn tell(rt: &impl Print, x: u32, scale: f32, shown: Shown) -> io::Result<()> {
-    match shown {
-        Shown::Code8 => field(rt, codes::quantize_i8(x, scale) as u32, 2),
-        Shown::Read8 => field(
-            rt,
-            words::f32_to_word(codes::dequantize_i8(codes::quantize_i8(x, scale), scale)),
-            8,
-        ),
-        Shown::Half => field(rt, words::f32_to_bf16(x) as u32, 4),
-        Shown::ReadHalf => field(rt, words::bf16_to_f32(words::f32_to_bf16(x)), 8),
-        Shown::Word => field(rt, x, 8),
-    }
-}
-
-fn byte_field(rt: &impl Print, b: u8) -> io::Result<()> {
-    field(rt, b as u32, 2)
 }
 
 // A space and a number in hex.

@@ -1,363 +1,156 @@
-// One call for each line.
-ghost use Rattle.std.specs.Prelude.{◌≤◌, ◌<◌};
+// What a line says.
+use std::alloc::{AllocError, Global};
 
-use crate::{fresh, show};
-use std::io;
+// The most numbers that a line gives to a call.
+const MOST_GIVEN: usize = 256;
 
-// One line after the other. `lent` has the cell bytes and scale words that are lent, `survivors` and `counts` the surviving rows.
-#[tactic(auto, using(test_lines::proofs::LineLaws::line_in))]
-pub(crate) fn play(
-    rt: &impl Print,
-    text: &[u8],
-    rec: &mut [u32; 134],
-    lent: &mut [u32; 2],
-    cells: &mut [u8],
-    scales: &mut [u32],
-    survivors: &mut [u32; 8192],
-    counts: &mut [u32; 9],
-) -> io::Result<()> {
-    let mut at = 0;
-    while at < text.len() {
-        let end = at + test_lines::line_length(text, at);
-        step(
-            rt,
-            &text[at..end],
-            rec,
-            lent,
-            cells,
-            scales,
-            survivors,
-            counts,
-        )?;
-        at = end + 1;
-    }
-    Ok(())
+// The words that a store's shape has on the boundary.
+#[derive(Clone, Copy)]
+pub(crate) struct Shape {
+    pub format: u32,
+    pub layers: u32,
+    pub heads: u32,
+    pub head_size: u32,
+    pub capacity: u32,
 }
 
-fn step(
-    rt: &impl Print,
-    line: &[u8],
-    rec: &mut [u32; 134],
-    lent: &mut [u32; 2],
-    cells: &mut [u8],
-    scales: &mut [u32],
-    survivors: &mut [u32; 8192],
-    counts: &mut [u32; 9],
-) -> io::Result<()> {
-    let kind = word(line, 0);
-    match kind {
-        8 => {
-            lent[0] = word(line, 1);
-            lent[1] = word(line, 2);
-            Ok(())
-        }
-        9..=11 => {
-            damage(line, kind, rec, cells, scales);
-            Ok(())
-        }
-        _ => {
-            let a = smaller(lent[0], cells.len());
-            let b = smaller(lent[1], scales.len());
-            call(
-                rt,
-                line,
-                kind,
-                rec,
-                &mut cells[0..a],
-                &mut scales[0..b],
-                survivors,
-                counts,
-            )
-        }
-    }
+// A call, or what is done to the memory behind the store's back.
+#[derive(Clone, Copy)]
+pub(crate) enum Call<'a> {
+    Open(Shape),
+    // Of the numbers `count` are keys, and the others values.
+    Append {
+        layer: u32,
+        count: usize,
+        numbers: &'a [u32],
+    },
+    Truncate {
+        layer: u32,
+        positions: u32,
+    },
+    Advance {
+        count: u32,
+    },
+    CachedLen {
+        layer: u32,
+    },
+    MemoryBytes,
+    ReadRow {
+        layer: u32,
+        side: u32,
+        head: u32,
+        position: u32,
+        places: usize,
+    },
+    Lend {
+        cells: usize,
+        scales: usize,
+    },
+    DamageRecord {
+        at: usize,
+        word: u32,
+    },
+    DamageCell {
+        at: usize,
+        byte: u8,
+    },
+    DamageScale {
+        at: usize,
+        word: u32,
+    },
+    Scores {
+        layer: u32,
+        head: u32,
+        scale: u32,
+        places: usize,
+        query: &'a [u32],
+    },
+    Sums {
+        layer: u32,
+        head: u32,
+        places: usize,
+        weights: &'a [u32],
+    },
+    // Holds the store to a fresh one.
+    Compare,
 }
 
-// Word `k` of a line, 0 past its end.
-pub(crate) fn word(line: &[u8], k: usize) -> u32
-    requires { k ≤ 2000 }
-{
-    let w = test_lines::hex_at(line, 9 * k);
-    if w <= 0xFFFF_FFFF { w as u32 } else { 0 }
+// A line's words: 8 digits each, a byte between two; 0 for what is no word.
+pub(crate) fn words_of(alloc: Global, line: &[u8]) -> Result<Vec<u32>, AllocError> {
+    line.chunks(9)
+        .filter(|place| 8 <= place.len())
+        .map(|place| u32::try_from(test_lines::hex_at(place, 0)).unwrap_or(0))
+        .collect(alloc)
 }
 
-// How many words a line has.
-fn words(line: &[u8]) -> usize {
-    if line.len() < 8 {
-        0
-    } else {
-        (line.len() - 8) / 9 + 1
-    }
-}
-
-pub(crate) fn smaller(a: u32, b: usize) -> usize
-    ensures { result ≤ b }
-{
-    least(a as usize, b)
-}
-
-pub(crate) fn least(a: usize, b: usize) -> usize
-    ensures { result ≤ b }
-{
-    if a < b { a } else { b }
-}
-
-// A call, and what is told of it.
-fn call(
-    rt: &impl Print,
-    line: &[u8],
-    kind: u32,
-    rec: &mut [u32; 134],
-    cells: &mut [u8],
-    scales: &mut [u32],
-    survivors: &mut [u32; 8192],
-    counts: &mut [u32; 9],
-) -> io::Result<()> {
-    match kind {
-        5 | 6 => count(rt, line, kind, rec),
-        7 => read(rt, line, rec, cells, scales),
-        12 | 13 => compute(rt, line, kind, rec, cells, scales),
-        14 => fresh::compare(rt, rec, cells, scales, survivors, counts),
-        _ => {
-            let reply = change(line, kind, rec, cells, scales);
-            if reply == 0 {
-                fresh::follow(line, kind, rec, survivors, counts);
-            }
-            show::reply(rt, reply)?;
-            show::line_end(rt)?;
-            show::store(rt, rec, cells, scales)
-        }
-    }
-}
-
-// A call that may change the store.
-fn change(
-    line: &[u8],
-    kind: u32,
-    rec: &mut [u32; 134],
-    cells: &mut [u8],
-    scales: &mut [u32],
-) -> u32 {
-    match kind {
-        1 => host::kv_open(
-            rec,
-            word(line, 1),
-            word(line, 2),
-            word(line, 3),
-            word(line, 4),
-            word(line, 5),
-            cells,
-            scales,
-        ),
-        2 => append(line, rec, cells, scales),
-        3 => host::kv_truncate(rec, cells, scales, word(line, 1), word(line, 2)),
-        _ => host::kv_advance(rec, word(line, 1)),
-    }
-}
-
-// Keys and values are the words after the layer and the number of keys.
-fn append(line: &[u8], rec: &mut [u32; 134], cells: &mut [u8], scales: &mut [u32]) -> u32 {
-    let mut numbers = [0u32; 256];
-    let n = numbers_of(line, 3, &mut numbers);
-    append_first(line, rec, cells, scales, &numbers, n)
-}
-
-// Puts the words of a line from word `k` on to the front of `numbers`, and answers how many they are.
-fn numbers_of(line: &[u8], k: usize, numbers: &mut [u32; 256]) -> u32
-    requires { k ≤ 5 }
-{
-    let n = words(line);
-    let mut i = 0;
-    while i < 256 {
-        if n <= i + k {
-            return i as u32;
-        }
-        numbers[i] = word(line, i + k);
-        i += 1;
-    }
-    256
-}
-
-// The first `n` numbers, of which the line says how many are keys.
-fn append_first(
-    line: &[u8],
-    rec: &mut [u32; 134],
-    cells: &mut [u8],
-    scales: &mut [u32],
-    numbers: &[u32; 256],
-    n: u32,
-) -> u32 {
-    append_part(line, rec, cells, scales, numbers, n)
-}
-
-fn append_part(
-    line: &[u8],
-    rec: &mut [u32; 134],
-    cells: &mut [u8],
-    scales: &mut [u32],
-    numbers: &[u32],
-    n: u32,
-) -> u32 {
-    let e = smaller(n, numbers.len());
-    let k = smaller(word(line, 2), e);
-    host::kv_append(
-        rec,
-        cells,
-        scales,
-        word(line, 1),
-        &numbers[0..k],
-        &numbers[k..e],
-    )
-}
-
-// A call that counts.
-fn count(rt: &impl Print, line: &[u8], kind: u32, rec: &[u32; 134]) -> io::Result<()> {
-    let mut n = 0u64;
-    let reply = if kind == 5 {
-        host::kv_cached_len(rec, word(line, 1), &mut n)
-    } else {
-        host::kv_memory_bytes(rec, &mut n)
-    };
-    show::reply(rt, reply)?;
-    show::count(rt, n)?;
-    show::line_end(rt)
-}
-
-fn read(
-    rt: &impl Print,
-    line: &[u8],
-    rec: &[u32; 134],
-    cells: &[u8],
-    scales: &[u32],
-) -> io::Result<()> {
-    let mut out = [0xFF80_DEADu32; 256];
-    read_into(rt, line, rec, cells, scales, &mut out)
-}
-
-// A row, read into as many places as the line says.
-fn read_into(
-    rt: &impl Print,
-    line: &[u8],
-    rec: &[u32; 134],
-    cells: &[u8],
-    scales: &[u32],
-    out: &mut [u32],
-) -> io::Result<()> {
-    let n = smaller(word(line, 5), out.len());
-    let reply = host::kv_read_row(
-        rec,
-        cells,
-        scales,
-        word(line, 1),
-        word(line, 2),
-        word(line, 3),
-        word(line, 4),
-        &mut out[0..n],
-    );
-    show::reply(rt, reply)?;
-    show::numbers(rt, &out[0..n])?;
-    show::line_end(rt)
-}
-
-// A call that computes: scores or sums of a head.
-fn compute(
-    rt: &impl Print,
-    line: &[u8],
-    kind: u32,
-    rec: &[u32; 134],
-    cells: &[u8],
-    scales: &[u32],
-) -> io::Result<()> {
-    let mut numbers = [0u32; 256];
-    let mut given = [0f32; 256];
-    let n = numbers_of(line, places_at(kind) + 1, &mut numbers);
-    floats_of(&numbers, &mut given);
-    compute_first(rt, line, kind, rec, cells, scales, &given, n)
-}
-
-// The word that says into how many places; the query or the weights come after it.
-fn places_at(kind: u32) -> usize
-    ensures { result ≤ 4 }
-{
-    if kind == 12 { 4 } else { 3 }
-}
-
-// The floats that words stand for.
-fn floats_of(numbers: &[u32; 256], floats: &mut [f32; 256]) {
-    let mut i = 0;
-    while i < 256 {
-        floats[i] = numbers::words::word_to_f32(numbers[i]);
-        i += 1;
-    }
-}
-
-// The first `n` floats are given.
-fn compute_first(
-    rt: &impl Print,
-    line: &[u8],
-    kind: u32,
-    rec: &[u32; 134],
-    cells: &[u8],
-    scales: &[u32],
-    given: &[f32; 256],
-    n: u32,
-) -> io::Result<()> {
-    let mut out = [0xFF80_DEADu32; 256];
-    compute_into(rt, line, kind, rec, cells, scales, given, n, &mut out)
-}
-
-fn compute_into(
-    rt: &impl Print,
-    line: &[u8],
-    kind: u32,
-    rec: &[u32; 134],
-    cells: &[u8],
-    scales: &[u32],
-    given: &[f32],
-    n: u32,
-    out: &mut [u32],
-) -> io::Result<()> {
-    let e = smaller(n, given.len());
-    let m = smaller(word(line, places_at(kind)), out.len());
-    let reply = computed(line, kind, rec, cells, scales, &given[0..e], &mut out[0..m]);
-    show::reply(rt, reply)?;
-    show::numbers(rt, &out[0..m])?;
-    show::line_end(rt)
-}
-
-fn computed(
-    line: &[u8],
-    kind: u32,
-    rec: &[u32; 134],
-    cells: &[u8],
-    scales: &[u32],
-    given: &[f32],
-    out: &mut [u32],
-) -> u32 {
-    let layer = word(line, 1);
-    let head = word(line, 2);
-    if kind == 12 {
-        let scale = numbers::words::word_to_f32(word(line, 3));
-        host::kv_scores(rec, cells, scales, layer, head, given, scale, out)
-    } else {
-        host::kv_sums(rec, cells, scales, layer, head, given, out)
-    }
-}
-
-// A word of the record, a cell or a scale word, changed behind the store's back.
-fn damage(line: &[u8], kind: u32, rec: &mut [u32; 134], cells: &mut [u8], scales: &mut [u32]) {
-    let i = word(line, 1) as usize;
-    let w = word(line, 2);
-    if kind == 9 {
-        if i < 134 {
-            rec[i] = w;
-        }
-    } else if kind == 10 {
-        if i < cells.len() {
-            cells[i] = (w % 256) as u8;
-        }
-    } else {
-        if i < scales.len() {
-            scales[i] = w;
+// Every word past a line's end is 0, and every kind that no other call has is an advance.
+impl<'a> From<&'a [u32]> for Call<'a> {
+    fn from(words: &'a [u32]) -> Self {
+        let word = |k: usize| words.get(k).copied().unwrap_or(0);
+        let place = |k: usize| word(k) as usize;
+        match word(0) {
+            1 => Call::Open(Shape {
+                format: word(1),
+                layers: word(2),
+                heads: word(3),
+                head_size: word(4),
+                capacity: word(5),
+            }),
+            2 => Call::Append {
+                layer: word(1),
+                count: place(2),
+                numbers: numbers_from(words, 3),
+            },
+            3 => Call::Truncate {
+                layer: word(1),
+                positions: word(2),
+            },
+            5 => Call::CachedLen { layer: word(1) },
+            6 => Call::MemoryBytes,
+            7 => Call::ReadRow {
+                layer: word(1),
+                side: word(2),
+                head: word(3),
+                position: word(4),
+                places: place(5),
+            },
+            8 => Call::Lend {
+                cells: place(1),
+                scales: place(2),
+            },
+            9 => Call::DamageRecord {
+                at: place(1),
+                word: word(2),
+            },
+            10 => Call::DamageCell {
+                at: place(1),
+                byte: (word(2) % 256) as u8,
+            },
+            11 => Call::DamageScale {
+                at: place(1),
+                word: word(2),
+            },
+            12 => Call::Scores {
+                layer: word(1),
+                head: word(2),
+                scale: word(3),
+                places: place(4),
+                query: numbers_from(words, 5),
+            },
+            13 => Call::Sums {
+                layer: word(1),
+                head: word(2),
+                places: place(3),
+                weights: numbers_from(words, 4),
+            },
+            14 => Call::Compare,
+            _ => Call::Advance { count: word(1) },
         }
     }
+}
+
+// The numbers from word `k` on.
+fn numbers_from(words: &[u32], k: usize) -> &[u32] {
+    let rest = words.get(k..).unwrap_or(&[]);
+    rest.get(..MOST_GIVEN).unwrap_or(rest)
 }

@@ -4,32 +4,26 @@
 
 mod calls;
 mod fresh;
+mod session;
 mod show;
+mod stores;
 
+use calls::{Call, words_of};
+use session::Session;
 use std::io;
 
 fn main(rt: HostRuntime) -> io::Result<()> {
     let mut space = [0u8; 262_144];
     let n = reading::read_full(&mut rt.reader(), &mut space);
-    start(&rt, &space[..n])
+    play(&rt, &space[..n])
 }
 
-// The memory at hand: a record of zeros, buffers that were used before, and room for survivors.
-fn start(rt: &impl Print, text: &[u8]) -> io::Result<()> {
-    let mut rec = [0u32; 134];
-    let mut cells = [0xA5u8; 2048];
-    let mut scales = [0xA5A5_A5A5u32; 256];
-    let mut lent = [0u32; 2];
-    let mut survivors = [0u32; 8192];
-    let mut counts = [0u32; 9];
-    calls::play(
-        rt,
-        text,
-        &mut rec,
-        &mut lent,
-        &mut cells,
-        &mut scales,
-        &mut survivors,
-        &mut counts,
-    )
+// One call after the other.
+fn play(rt: &(impl Print + AllocGlobal), text: &[u8]) -> io::Result<()> {
+    let mut session = Session::new(rt.alloc())?;
+    for line in text.split_inclusive(|b| *b == b'\n') {
+        let words = words_of(rt.alloc(), line.strip_suffix(b"\n").unwrap_or(line))?;
+        session.play(rt, Call::from(words.as_slice()))?;
+    }
+    Ok(())
 }

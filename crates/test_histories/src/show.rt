@@ -1,72 +1,37 @@
 // What is printed of a call.
-ghost use Rattle.std.specs.Prelude.{◌≤◌, length};
-
+use crate::stores::Store;
 use std::io;
 
-pub(crate) fn reply(rt: &impl Print, n: u32) -> io::Result<()> {
-    print!(rt; "reply {n}")
-}
-
-pub(crate) fn count(rt: &impl Print, n: u64) -> io::Result<()> {
-    print!(rt; " count {n}")
-}
-
-pub(crate) fn numbers(rt: &impl Print, words: &[u32]) -> io::Result<()> {
-    text(rt, b" numbers")?;
-    word_fields(rt, words)
-}
-
-pub(crate) fn line_end(rt: &impl Print) -> io::Result<()> {
-    text(rt, b"\n")
-}
-
-pub(crate) fn text(rt: &impl Print, bytes: &[u8]) -> io::Result<()> {
-    rt.write_all(bytes)
+// What a call answers, and what it left in its output.
+pub(crate) fn output(rt: &impl Print, reply: u32, numbers: &[u32]) -> io::Result<()> {
+    print!(rt; "reply {reply} numbers")?;
+    hex(rt, numbers, 8)?;
+    rt.write_all(b"\n")
 }
 
 // The record and both buffers.
-pub(crate) fn store(
-    rt: &impl Print,
-    rec: &[u32; 134],
-    cells: &[u8],
-    scales: &[u32],
-) -> io::Result<()> {
-    record(rt, rec)?;
-    text(rt, b"cells")?;
-    byte_fields(rt, cells)?;
-    text(rt, b"\nscales")?;
-    word_fields(rt, scales)?;
-    line_end(rt)
+pub(crate) fn store(rt: &impl Print, store: &Store) -> io::Result<()> {
+    record(rt, &store.record)?;
+    rt.write_all(b"cells")?;
+    hex(rt, store.cells.lent(), 2)?;
+    rt.write_all(b"\nscales")?;
+    hex(rt, store.scales.lent(), 8)?;
+    rt.write_all(b"\n")
 }
 
 // The shape, the sequence number, and the lengths up to the last that is not 0.
-fn record(rt: &impl Print, rec: &[u32]) -> io::Result<()> {
-    if rec.len() < 6 {
-        return Ok(());
-    }
-    text(rt, b"record")?;
-    decimals(rt, &rec[0..5])?;
-    text(rt, b" seq")?;
-    decimals(rt, &rec[5..6])?;
-    text(rt, b" lens")?;
-    let lens = &rec[6..];
-    let n = used(lens);
-    decimals(rt, &lens[0..n])?;
-    line_end(rt)
-}
-
-// How many lengths there are up to the last that is not 0.
-fn used(lens: &[u32]) -> usize
-    ensures { result ≤ length lens.now }
-{
-    let mut n = lens.len();
-    while 0 < n {
-        if lens[n - 1] != 0 {
-            return n;
-        }
-        n -= 1;
-    }
-    0
+fn record(rt: &impl Print, record: &[u32; 134]) -> io::Result<()> {
+    let seq = record[5];
+    let lens = &record[6..];
+    let used = lens
+        .iter()
+        .rposition(|len| *len != 0)
+        .map_or(0, |last| last + 1);
+    rt.write_all(b"record")?;
+    decimals(rt, &record[..5])?;
+    print!(rt; " seq {seq} lens")?;
+    decimals(rt, &lens[..used])?;
+    rt.write_all(b"\n")
 }
 
 fn decimals(rt: &impl Print, words: &[u32]) -> io::Result<()> {
@@ -76,29 +41,15 @@ fn decimals(rt: &impl Print, words: &[u32]) -> io::Result<()> {
     Ok(())
 }
 
-fn word_fields(rt: &impl Print, words: &[u32]) -> io::Result<()> {
-    for n in words {
-        field(rt, *n, 8)?;
-    }
-    Ok(())
-}
-
-fn byte_fields(rt: &impl Print, bytes: &[u8]) -> io::Result<()> {
-    for b in bytes {
-        byte_field(rt, *b)?;
-    }
-    Ok(())
-}
-
 pub(crate) fn decimal(rt: &impl Print, n: u32) -> io::Result<()> {
     print!(rt; " {n}")
 }
 
-fn byte_field(rt: &impl Print, b: u8) -> io::Result<()> {
-    field(rt, b as u32, 2)
-}
-
-// A space and a number in hex.
-fn field(rt: &impl Print, n: u32, width: usize) -> io::Result<()> {
-    print!(rt; " {n:0width$x}")
+// A space and a number in hex, for each.
+fn hex<T: Copy + Into<u32>>(rt: &impl Print, numbers: &[T], width: usize) -> io::Result<()> {
+    for n in numbers {
+        let n: u32 = (*n).into();
+        print!(rt; " {n:0width$x}")?;
+    }
+    Ok(())
 }

@@ -1,23 +1,29 @@
 -- A line from a place on: by the byte there, and past the end.
 -- Each holds by the definition, at the first byte.
-use mathlib.Core.Path.{◌≡◌}
+use mathlib.Core.Path.{◌≡◌, refl}
+use mathlib.Core.Logic.{◌≢◌}
+use native.Mathlib.Numerals.{add-one}
+use borrow.Author.Tests.{ne_eqb}
 use mathlib.Core.Bool.{Bool, true, false, cond}
 use mathlib.Core.List.{List, [], ◌∷◌}
 use Prim.Native.Nat.{ℕ, suc, ◌+◌, ◌≤◌, ◌<◌}
 use native.Mathlib.Omega.{arith}
 use lib.Dec.{eqb}
-use lib.ListN.{length, get_or, drop, length-drop, drop_of_length-le}
-use lib.Seq.{drop-cons}
+use lib.ListN.{length, drop, length-drop, drop_of_length-le}
 use Rattle.test_lines.specs.Line.{line_length_of}
 
 at_first : (t : Bool) {m n : ℕ} → m ≤ n → cond t 0 (suc m) ≤ suc n
 at_first true h = omega arith
 at_first false h = omega arith
 
-pub line_at : (text : List ℕ) (i : ℕ) → i < length text
-    → line_length_of (drop i text) ≡ cond (eqb (get_or text i 0) 10) 0 (suc (line_length_of (drop (suc i) text)))
+-- where the first byte is a line feed, and where it is none
+pub line_hit : (b : ℕ) (text : List ℕ) → b ≡ 10 → line_length_of (b ∷ text) ≡ 0
 unfolding line_length_of
-line_at text i h = rw (drop-cons text i 0)
+line_hit b text e = rw e refl
+
+pub line_miss : (b : ℕ) (text : List ℕ) → b ≢ 10 → line_length_of (b ∷ text) ≡ line_length_of text + 1
+unfolding line_length_of
+line_miss b text e = rw (ne_eqb b 10 e, add-one) refl
 
 pub line-within : (text : List ℕ) → line_length_of text ≤ length text
 unfolding line_length_of

@@ -4,24 +4,19 @@
 ghost use Rattle.std.specs.Prelude.{◌≡◌, drop};
 ghost use Rattle.test_lines.specs.Line.{digit_of, with_digit_of, hex_at_of, line_length_of};
 
+// What is no word: one more than the largest.
+const NO_WORD: u64 = 1 << 32;
+
 // The value of an upper-case hex digit, or 16.
 #[tactic(auto, unfolding(crate::specs::Line::digit_of))]
 pub fn digit(b: u8) -> u64
     ensures { result ≡ digit_of b }
 {
-    if b < b'0' {
-        return 16;
+    match b {
+        b'0'..=b'9' => u64::from(b - b'0'),
+        b'A'..=b'F' => u64::from(b - b'A') + 10,
+        _ => 16,
     }
-    if b <= b'9' {
-        return (b - b'0') as u64;
-    }
-    if b < b'A' {
-        return 16;
-    }
-    if b <= b'F' {
-        return (b - b'A') as u64 + 10;
-    }
-    16
 }
 
 // The word whose 8 digits begin at `at`, or 2^32 where they are not all there.
@@ -29,48 +24,37 @@ pub fn digit(b: u8) -> u64
 pub fn hex_at(text: &[u8], at: usize) -> u64
     ensures { result ≡ hex_at_of text.now at }
 {
-    if text.len() <= at {
-        return 0x1_0000_0000;
+    let Some(rest) = text.get(at..) else {
+        return NO_WORD;
+    };
+    let Some(digits) = rest.get(..8) else {
+        return NO_WORD;
+    };
+    let mut word = 0;
+    for b in digits {
+        word = with_digit(word, digit(*b));
     }
-    if text.len() - at < 8 {
-        return 0x1_0000_0000;
-    }
-    let mut w = 0;
-    let mut i = 0;
-    while i < 8 {
-        w = with_digit(w, digit(text[at + i]));
-        i += 1;
-    }
-    w
+    word
 }
 
 // A digit more; 2^32 once a byte was none.
-fn with_digit(w: u64, d: u64) -> u64
-    ensures { result ≡ with_digit_of w d }
+fn with_digit(word: u64, digit: u64) -> u64
+    ensures { result ≡ with_digit_of word digit }
 {
-    if 0xFFFF_FFFF < w {
-        return 0x1_0000_0000;
+    if word < NO_WORD && digit < 16 {
+        word * 16 + digit
+    } else {
+        NO_WORD
     }
-    if 15 < d {
-        return 0x1_0000_0000;
-    }
-    w * 16 + d
 }
 
 // The bytes from `at` on before the first line feed, or all; none past the end.
-#[tactic(auto, using(crate::proofs::LineLaws::line_at, crate::proofs::LineLaws::line_past))]
+#[tactic(auto, using(crate::proofs::LineLaws::line_past))]
 pub fn line_length(text: &[u8], at: usize) -> usize
     ensures { result ≡ line_length_of (drop at text.now) }
 {
-    if text.len() <= at {
+    let Some(rest) = text.get(at..) else {
         return 0;
-    }
-    let mut n = 0;
-    while at + n < text.len() {
-        if text[at + n] == b'\n' {
-            return n;
-        }
-        n += 1;
-    }
-    n
+    };
+    rest.iter().position(|b| *b == b'\n').unwrap_or(rest.len())
 }

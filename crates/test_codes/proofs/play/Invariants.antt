@@ -1,6 +1,9 @@
--- Each run lies before the next.
-use Rattle.std.proofs.Common.{length, ◌-◌}
+-- The rest is no longer than the text, and each line takes some of it.
+use Rattle.std.proofs.Common.{length, ◌≤◌}
 use Rattle.test_codes.proofs.play.Given as goal
 
-abbrev pub decreases-loop-at : goal.decreases-loop-at
-decreases-loop-at g l = length l.text - l.at
+abbrev pub invariant-loop-line : goal.invariant-loop-line
+invariant-loop-line g l = length l.rest ≤ length l.text
+
+abbrev pub decreases-loop-line : goal.decreases-loop-line
+decreases-loop-line g l = length l.rest

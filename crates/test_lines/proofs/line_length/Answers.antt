@@ -1,15 +1,19 @@
--- No byte passed is a line feed: a byte more is passed where none is.
+-- The first line feed of the rest is where its line ends.
+use mathlib.Core.Path.{◌≡◌, refl, sym, ◌∙◌}
+use mathlib.Core.Logic.{◌≢◌}
 use native.Mathlib.Omega.{arith}
-use mathlib.Core.Path.{◌≡◌}
-use Prim.Native.Nat.{◌+◌, suc}
-use borrow.Author.Tests.{ne_eqb}
-use Rattle.test_lines.proofs.LineLaws.{line_at}
+use lib.ListN.{drop}
+use borrow.Author.Rules.{rules}
+use borrow.Author.Tests.{tests}
+use Rattle.std.proofs.lemmas.Iterator.{YieldsList-from_slice, IsFirst-from_position, index_from_first}
+use Rattle.std.proofs.lemmas.Grind.{common_steps}
+use Rattle.test_lines.specs.Line.{line_length_of}
+use Rattle.test_lines.proofs.LineLaws.{line_hit, line_miss}
 use Rattle.test_lines.proofs.line_length.Goals as goal
 
-pub loop-n-preserved : goal.loop-n-preserved
-loop-n-preserved c =
-    let i = c.args.at + c.loop-n.n in
-    let e = line_at c.args.text.now i (omega arith) in
-    let z = rw (ne_eqb _ 10 c.if-text-at-eq10.false) at e in
-    let s : c.args.at + (c.loop-n.n + 1) ≡ suc i = omega arith in
-    (omega arith, rw s (omega arith))
+pub returns : goal.returns
+unfolding line_length_of
+returns c =
+    let r : c.in-Some.rest.now ≡ drop c.args.at c.args.text.now = grind (arith, common_steps) in
+    let f = IsFirst-from_position _ _ c.position.result (λ b. b ≡ 10) (λ b. b ≢ 10) c.position.ensures.ran (YieldsList-from_slice c.in-Some.rest.now c.iter.ensures.rest) (λ x q k. search (rules, tests)) (λ x q k. search (rules, tests)) in
+    c.unwrap_or.ensures ∙ sym (index_from_first line_length_of (λ b. b ≡ 10) (λ b. b ≢ 10) refl line_hit line_miss _ _ f) ∙ rw r

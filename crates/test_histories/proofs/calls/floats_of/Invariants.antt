@@ -1,9 +1,0 @@
--- The index stays in the numbers.
-use Rattle.std.proofs.Common.{◌-◌, ◌≤◌}
-use Rattle.test_histories.proofs.calls.floats_of.Given as goal
-
-abbrev pub invariant-loop-i : goal.invariant-loop-i
-invariant-loop-i l = l.i ≤ 256
-
-abbrev pub decreases-loop-i : goal.decreases-loop-i
-decreases-loop-i l = 256 - l.i

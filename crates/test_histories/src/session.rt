@@ -1,0 +1,176 @@
+// A store with the calls that were made of it.
+use crate::calls::Call;
+use crate::fresh::{self, Survivors};
+use crate::show;
+use crate::stores::Store;
+use numbers::words::word_to_f32;
+use std::alloc::{AllocError, Global};
+use std::io;
+
+// What an output holds before a call.
+const UNWRITTEN: u32 = 0xFF80_DEAD;
+
+// The most places of an output.
+const MOST_PLACES: usize = 256;
+
+#[derive(Drop)]
+pub(crate) struct Session {
+    store: Store,
+    // None once some did not fit.
+    survivors: Option<Survivors>,
+}
+
+impl Session {
+    pub(crate) fn new(alloc: Global) -> Result<Self, AllocError> {
+        Ok(Session {
+            store: Store::new(alloc, 0xA5, 2048, 256)?,
+            survivors: Some(Survivors::new(alloc)?),
+        })
+    }
+
+    // Does what a line says, and tells what a call answers and leaves.
+    pub(crate) fn play<R: Print + AllocGlobal>(&mut self, rt: &R, call: Call) -> io::Result<()> {
+        match call {
+            Call::Open(shape) => {
+                let reply = self.store.open(shape);
+                if reply == 0 {
+                    self.survivors = Some(Survivors::new(rt.alloc())?);
+                }
+                self.tell(rt, reply)
+            }
+            Call::Append {
+                layer,
+                count,
+                numbers,
+            } => {
+                let (keys, values) = numbers.split_at(count.min(numbers.len()));
+                let reply = self.store.append(layer, keys, values);
+                if reply == 0 {
+                    self.keep(layer, count, keys, values)?;
+                }
+                self.tell(rt, reply)
+            }
+            Call::Truncate { layer, positions } => {
+                let reply = self.store.truncate(layer, positions);
+                if reply == 0 {
+                    self.cut(layer, positions);
+                }
+                self.tell(rt, reply)
+            }
+            Call::Advance { count } => {
+                let reply = self.store.advance(count);
+                self.tell(rt, reply)
+            }
+            Call::CachedLen { layer } => {
+                let mut count = 0;
+                let reply = host::kv_cached_len(&self.store.record, layer, &mut count);
+                println!(rt; "reply {reply} count {count}")
+            }
+            Call::MemoryBytes => {
+                let mut count = 0;
+                let reply = host::kv_memory_bytes(&self.store.record, &mut count);
+                println!(rt; "reply {reply} count {count}")
+            }
+            Call::ReadRow {
+                layer,
+                side,
+                head,
+                position,
+                places,
+            } => {
+                let mut out = output(rt.alloc(), places)?;
+                let reply = self.store.read_row(layer, side, head, position, &mut out);
+                show::output(rt, reply, &out)
+            }
+            Call::Scores {
+                layer,
+                head,
+                scale,
+                places,
+                query,
+            } => {
+                let query = floats(rt.alloc(), query)?;
+                let mut out = output(rt.alloc(), places)?;
+                let scale = word_to_f32(scale);
+                let reply = self.store.scores(layer, head, &query, scale, &mut out);
+                show::output(rt, reply, &out)
+            }
+            Call::Sums {
+                layer,
+                head,
+                places,
+                weights,
+            } => {
+                let weights = floats(rt.alloc(), weights)?;
+                let mut out = output(rt.alloc(), places)?;
+                let reply = self.store.sums(layer, head, &weights, &mut out);
+                show::output(rt, reply, &out)
+            }
+            Call::Lend { cells, scales } => {
+                self.store.cells.lend(cells);
+                self.store.scales.lend(scales);
+                Ok(())
+            }
+            Call::DamageRecord { at, word } => {
+                self.store.damage_record(at, word);
+                Ok(())
+            }
+            Call::DamageCell { at, byte } => {
+                self.store.cells.damage(at, byte);
+                Ok(())
+            }
+            Call::DamageScale { at, word } => {
+                self.store.scales.damage(at, word);
+                Ok(())
+            }
+            Call::Compare => match &self.survivors {
+                Some(survivors) => fresh::compare(rt, &self.store, survivors),
+                None => rt.write_all(b"fresh too large\n"),
+            },
+        }
+    }
+
+    // What a call that may change the store answers and leaves.
+    fn tell(&self, rt: &impl Print, reply: u32) -> io::Result<()> {
+        println!(rt; "reply {reply}")?;
+        show::store(rt, &self.store)
+    }
+
+    // The keys and values of an accepted append survive.
+    fn keep(
+        &mut self,
+        layer: u32,
+        count: usize,
+        keys: &[u32],
+        values: &[u32],
+    ) -> Result<(), AllocError> {
+        if let Some(survivors) = &mut self.survivors
+            && !survivors.append(layer, count, keys, values)?
+        {
+            self.survivors = None;
+        }
+        Ok(())
+    }
+
+    // Of a truncated layer the first positions survive.
+    fn cut(&mut self, layer: u32, positions: u32) {
+        let shape = self.store.shape();
+        let kept = shape
+            .heads
+            .saturating_mul(shape.head_size)
+            .saturating_mul(positions);
+        if let Some(survivors) = &mut self.survivors {
+            survivors.truncate(layer, kept as usize);
+        }
+    }
+}
+
+// An output of as many places as a line says.
+fn output(alloc: Global, places: usize) -> Result<Vec<u32>, AllocError> {
+    vec![in alloc; UNWRITTEN; places.min(MOST_PLACES)]
+}
+
+// The floats that words stand for.
+fn floats(alloc: Global, words: &[u32]) -> Result<Vec<f32>, AllocError> {
+    words.iter().map(|word| word_to_f32(*word)).collect(alloc)
+}

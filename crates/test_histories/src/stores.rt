@@ -1,0 +1,155 @@
+// A store on the boundary: its record, and the memory that it is lent.
+use crate::calls::Shape;
+use std::alloc::{AllocError, Global};
+
+// Memory, of which the front is lent.
+#[derive(Drop)]
+pub(crate) struct Buffer<T> {
+    memory: Vec<T>,
+    lent: usize,
+}
+
+impl<T: Copy> Buffer<T> {
+    // Full of what was there before, and not lent.
+    pub(crate) fn new(alloc: Global, used: T, len: usize) -> Result<Self, AllocError> {
+        Ok(Buffer {
+            memory: vec![in alloc; used; len]?,
+            lent: 0,
+        })
+    }
+
+    // Lends the first `len` places, or all where there are no more.
+    pub(crate) fn lend(&mut self, len: usize) {
+        self.lent = len;
+    }
+
+    pub(crate) fn lent(&self) -> &[T] {
+        let n = self.lent.min(self.memory.len());
+        &self.memory[..n]
+    }
+
+    pub(crate) fn lent_mut(&mut self) -> &mut [T] {
+        let n = self.lent.min(self.memory.len());
+        &mut self.memory[..n]
+    }
+
+    // Changes a place, where it is there, lent or not.
+    pub(crate) fn damage(&mut self, at: usize, with: T) {
+        if let Some(x) = self.memory.get_mut(at) {
+            *x = with;
+        }
+    }
+}
+
+#[derive(Drop)]
+pub(crate) struct Store {
+    pub record: [u32; 134],
+    pub cells: Buffer<u8>,
+    pub scales: Buffer<u32>,
+}
+
+impl Store {
+    // A record of zeros over memory that is full of `used` bytes.
+    pub(crate) fn new(
+        alloc: Global,
+        used: u8,
+        cells: usize,
+        scales: usize,
+    ) -> Result<Self, AllocError> {
+        Ok(Store {
+            record: [0; 134],
+            cells: Buffer::new(alloc, used, cells)?,
+            scales: Buffer::new(alloc, u32::from_ne_bytes([used; 4]), scales)?,
+        })
+    }
+
+    pub(crate) fn shape(&self) -> Shape {
+        let [format, layers, heads, head_size, capacity, ..] = self.record;
+        Shape {
+            format,
+            layers,
+            heads,
+            head_size,
+            capacity,
+        }
+    }
+
+    pub(crate) fn open(&mut self, shape: Shape) -> u32 {
+        let cells = self.cells.lent_mut();
+        let scales = self.scales.lent_mut();
+        host::kv_open(
+            &mut self.record,
+            shape.format,
+            shape.layers,
+            shape.heads,
+            shape.head_size,
+            shape.capacity,
+            cells,
+            scales,
+        )
+    }
+
+    pub(crate) fn append(&mut self, layer: u32, keys: &[u32], values: &[u32]) -> u32 {
+        let cells = self.cells.lent_mut();
+        let scales = self.scales.lent_mut();
+        host::kv_append(&mut self.record, cells, scales, layer, keys, values)
+    }
+
+    pub(crate) fn truncate(&mut self, layer: u32, positions: u32) -> u32 {
+        let cells = self.cells.lent_mut();
+        let scales = self.scales.lent_mut();
+        host::kv_truncate(&mut self.record, cells, scales, layer, positions)
+    }
+
+    pub(crate) fn advance(&mut self, count: u32) -> u32 {
+        host::kv_advance(&mut self.record, count)
+    }
+
+    pub(crate) fn read_row(
+        &self,
+        layer: u32,
+        side: u32,
+        head: u32,
+        position: u32,
+        out: &mut [u32],
+    ) -> u32 {
+        let cells = self.cells.lent();
+        let scales = self.scales.lent();
+        host::kv_read_row(
+            &self.record,
+            cells,
+            scales,
+            layer,
+            side,
+            head,
+            position,
+            out,
+        )
+    }
+
+    pub(crate) fn scores(
+        &self,
+        layer: u32,
+        head: u32,
+        query: &[f32],
+        scale: f32,
+        out: &mut [u32],
+    ) -> u32 {
+        let cells = self.cells.lent();
+        let scales = self.scales.lent();
+        host::kv_scores(&self.record, cells, scales, layer, head, query, scale, out)
+    }
+
+    pub(crate) fn sums(&self, layer: u32, head: u32, weights: &[f32], out: &mut [u32]) -> u32 {
+        let cells = self.cells.lent();
+        let scales = self.scales.lent();
+        host::kv_sums(&self.record, cells, scales, layer, head, weights, out)
+    }
+
+    // Changes a word of the record, where it is there.
+    pub(crate) fn damage_record(&mut self, at: usize, word: u32) {
+        if let Some(x) = self.record.get_mut(at) {
+            *x = word;
+        }
+    }
+}
