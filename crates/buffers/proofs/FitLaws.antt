@@ -16,7 +16,7 @@ use Rattle.shapes.specs.Shape.{bytes_of, words_of, limits, within, exact}
 use Rattle.shapes.proofs.ShapeLaws.{within-limits, exact_sizes}
 use Rattle.buffers.specs.Write.{written_side, written}
 use Rattle.buffers.specs.Calls.{layer_fits_of}
-use Rattle.buffers.specs.Fits.{InLayer, IsRoom}
+use Rattle.buffers.specs.Fits.{RunInside, IsRoom}
 
 regrouped : (w e r : Bool) → ((w && e) && r) ≡ (w && (e && r))
 regrouped true e r = refl
@@ -38,7 +38,7 @@ module _ (s : Shape) (l most : ℕ) (b : Buffers) where
   layer_left e = rw e at layer_fits
 
   -- past the test: positions of the layer, in whole buffers
-  pub in-layer : layer_fits_of s l most b ≡ true → {p n : ℕ} → p + n ≤ most → InLayer s l p n
+  pub in-layer : layer_fits_of s l most b ≡ true → {p n : ℕ} → p + n ≤ most → RunInside s l p n
   unfolding layer_fits_of
   in-layer t span =
       let x = both (within s) (sizes && there) t in

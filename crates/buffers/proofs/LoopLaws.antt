@@ -21,7 +21,7 @@ use Rattle.places.proofs.SpanLaws.{SpanIn, spanned, rows_small, span_in, span_si
 use Rattle.buffers.specs.declared.Side.{Side}
 use Rattle.buffers.specs.declared.Side.TheVariants.{Keys, Values}
 use Rattle.buffers.specs.Side.{side_number}
-use Rattle.buffers.specs.Fits.{InLayer, IsRoom}
+use Rattle.buffers.specs.Fits.{RunInside, IsRoom}
 use Rattle.buffers.specs.Write.{put, written_side}
 
 -- positions of head h, lent as `[from..to]` out of a buffer of so many elements
@@ -50,7 +50,7 @@ pub side_below : (x : Side) → side_number x < 2
 side_below Keys = omega arith
 side_below Values = omega arith
 
-module _ {s : Shape} {l p n : ℕ} (k : InLayer s l p n) where
+module _ {s : Shape} {l p n : ℕ} (k : RunInside s l p n) where
   limited : Limits s
   limited = limits_facts s k.in-limits
 
@@ -99,7 +99,7 @@ pub record HeadFits (s : Shape) (h r from to size : ℕ) : Type 0 where
   pub inside : to + h * (s.capacity * r) ≤ size
   pub small : to + h * (s.capacity * r) ≤ 68719476736
 
-pub cells_fit : {s : Shape} {l p n side h c : ℕ} {first : Span} → InLayer s l p n → side < 2 → h < s.heads → first ≡ span_of s l side 0 p n
+pub cells_fit : {s : Shape} {l p n side h c : ℕ} {first : Span} → RunInside s l p n → side < 2 → h < s.heads → first ≡ span_of s l side 0 p n
     → c ≡ bytes_of s → HeadFits s h c first.cells_from first.cells_to (cell_total s)
 cells_fit {s} k u v e q =
     let x = head_ends k u v e q refl in
@@ -113,7 +113,7 @@ cells_fit {s} k u v e q =
       small = rw z (omega (arith, rows_small y (cell_bytes_most s (limited k)), span_size y b));
     }
 
-pub words_fit : {s : Shape} {l p n side h w : ℕ} {first : Span} → InLayer s l p n → side < 2 → h < s.heads → first ≡ span_of s l side 0 p n
+pub words_fit : {s : Shape} {l p n side h w : ℕ} {first : Span} → RunInside s l p n → side < 2 → h < s.heads → first ≡ span_of s l side 0 p n
     → w ≡ words_of s → HeadFits s h w first.scales_from first.scales_to (scale_total s)
 words_fit {s} k u v e o =
     let x = head_ends k u v e refl o in

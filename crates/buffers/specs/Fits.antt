@@ -5,7 +5,7 @@ use Rattle.shapes.specs.Shape.{bytes_of, words_of, width, cell_total, scale_tota
 use Rattle.shapes.specs.declared.Shape.{Shape}
 
 -- positions p to p + n - 1 of layer l
-pub record InLayer (s : Shape) (l p n : ℕ) : Type 0 where
+pub record RunInside (s : Shape) (l p n : ℕ) : Type 0 where
   pub in-limits : limits s ≡ true
   pub layer_in : l < s.layers
   pub span : p + n ≤ s.capacity

@@ -11,7 +11,7 @@ ghost use Rattle.places.specs.Span.{span_at, span_of};
 ghost use Rattle.rows.specs.Row.{row_cells, row_scales};
 ghost use Rattle.buffers.specs.Write.{written_side, zeros};
 ghost use Rattle.buffers.specs.Calls.{head_numbers, cell_row_of, scale_row, append_rows_of, remove_rows_of};
-ghost use Rattle.buffers.specs.Fits.{InLayer, IsRoom, HeadRows};
+ghost use Rattle.buffers.specs.Fits.{RunInside, IsRoom, HeadRows};
 ghost use Rattle.buffers.specs.Heads.{AcceptsHead, LeavesHead};
 ghost use Rattle.buffers.specs.Side.{side_number};
 
@@ -124,7 +124,7 @@ struct Run {
     layer: u32,
     p: usize,
     n: usize,
-    ghost inside: { InLayer shape layer p n },
+    ghost inside: { RunInside shape layer p n },
 }
 
 impl Run {

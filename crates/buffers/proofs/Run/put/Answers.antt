@@ -10,14 +10,14 @@ use Rattle.shapes.specs.declared.Shape.{Shape}
 use Rattle.shapes.specs.Shape.{bytes_of, words_of, width}
 use Rattle.shapes.proofs.ShapeLaws.{width_in}
 use Rattle.rows.specs.Row.{row_cells, row_scales}
-use Rattle.buffers.specs.Fits.{InLayer, IsRoom}
+use Rattle.buffers.specs.Fits.{RunInside, IsRoom}
 use Rattle.buffers.proofs.LoopLaws.{side_below, room_kept}
 use Rattle.buffers.proofs.RunLaws.{cell_rows, scale_rows}
 use Rattle.buffers.proofs.PositionLaws.{next_in, Known, no_positions, position_turn, positions-done}
 use Rattle.buffers.proofs.Run.put.Goals as goal
 
 -- what the loop knows of each buffer
-module _ {s : Shape} {l side p n cells scales : ℕ} (k : InLayer s l p n) (u : side < 2) (r : IsRoom s cells scales) {numbers : List ℕ} (q : length numbers ≡ n * width s) where
+module _ {s : Shape} {l side p n cells scales : ℕ} (k : RunInside s l p n) (u : side < 2) (r : IsRoom s cells scales) {numbers : List ℕ} (q : length numbers ≡ n * width s) where
   cells-known : (x : List ℕ) → length x ≡ cells → Known (bytes_of s) s l side p n (row_cells s.format) numbers x
   cells-known x e =
       let sized = cell_rows _ _ k.in-limits _ q in
