@@ -10,7 +10,8 @@ use Rattle.replies.specs.declared.Refusal.{Refusal}
 use Rattle.replies.specs.declared.Refusal.TheVariants.{Shape, Room, Lengths, Layer, Head, Format, Size, Position, Full, Sequence}
 use Rattle.replies.specs.Reply.{refusal_number, reply_number}
 use Rattle.replies.specs.Outcome.{Case, ◌when◌, lowest, answered, outcome}
-use Rattle.replies.proofs.Refusals.{rising, lowest_none, passed_before, refused_before, outcome-done, outcome_refused}
+use Rattle.replies.proofs.Refusals.{rising}
+use Rattle.replies.proofs.Numbered as by_number
 
 -- no refusal has the number 0
 pub not_done : (x : Refusal) → refusal_number x ≡ 0 → ⊥
@@ -39,22 +40,22 @@ module _ (a : List Case) {A : Type 0} {r : Result A Refusal} (e : reply_number r
   pub done : {x : A} → r ≡ Ok x → lowest a ≡ 0
   done w = sym e ∙ ap reply_number w
 
-  refused : {x : Refusal} → r ≡ Err x → lowest a ≡ 0 → ⊥
-  refused {x} w z = not_done x (sym (ap reply_number w) ∙ e ∙ z)
+  refused : {x : Refusal} → r ≡ Err x → reply_number r ≡ 0 → ⊥
+  refused {x} w z = not_done x (sym (ap reply_number w) ∙ z)
 
   -- refused, it is the lowest before all that follow; done, it hands on to them
   pub first_refused : {B : Type 0} {x : Refusal} (s : Result B Refusal) (b : List Case) → r ≡ Err x → IsErrAnd s (λ y. y ≡ x) → reply_number s ≡ lowest (a ++ b)
-  first_refused s b w h = handed_on s w h ∙ e ∙ sym (refused_before a b (refused w))
+  first_refused s b w h = handed_on s w h ∙ by_number.first_refused a e refl b (refused w)
 
   pub first_passed : {x : A} {n : ℕ} (b : List Case) → rising 0 a ≡ true → r ≡ Ok x → n ≡ lowest b → n ≡ lowest (a ++ b)
-  first_passed b t w q = q ∙ sym (passed_before a b (lowest_none 0 a t (done w)))
+  first_passed b t w q = by_number.first_passed a e refl b t (ap reply_number w) q
 
   -- what a call leaves that asks it first
   pub call_refused : {B C : Type 0} {x : Refusal} {old : C} (s : Result B Refusal) (new : C) → r ≡ Err x → IsErrAnd s (λ y. y ≡ x) → answered s old ≡ outcome a new old
-  call_refused {old = old} s new w h = rw (outcome_refused a new old (refused w), handed_on s w h, e)
+  call_refused s new w h = rw (handed_on s w h) (by_number.call_refused a e refl new (refused w))
 
   pub call_done : {C : Type 0} {x : A} {new left : C} (old : C) → r ≡ Ok x → left ≡ new → record { reply = 0; result = left } ≡ outcome a new old
-  call_done {new = new} old w q = rw (outcome-done a new old (done w), q)
+  call_done old w q = rw (ap reply_number w) at (by_number.call_done a e refl old (ap reply_number w) q)
 
 -- a condition p that was required, tested as `holds`: what it answers, and that it holds where it is not refused
 module _ {r : Result ⊤ Refusal} (x : Refusal) (holds : Bool) (e : r ≡ (if holds then Ok (tt {0}) else Err x)) where

@@ -1,3 +1,4 @@
 pub mod NanLaws
+pub mod PairLaws
 pub mod RowLaws
 pub mod SumLaws

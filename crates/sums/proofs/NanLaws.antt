@@ -20,9 +20,9 @@ most : (b : Bool) → one_if b ≤ 1
 most true = omega arith
 most false = omega arith
 
-none : (b : Bool) → one_if b ≡ 0 → b ≡ false
-none true e = absurd (omega arith)
-none false e = refl
+pub none_counted : (b : Bool) → one_if b ≡ 0 → b ≡ false
+none_counted true e = absurd (omega arith)
+none_counted false e = refl
 
 -- number d, where it is a NaN
 abbrev pub nan_count : List ℕ → ℕ → ℕ
@@ -38,7 +38,7 @@ one_at_most cells d = most (nan_bits binary32 (f32_at cells d))
 -- where none is counted in four rows of m numbers
 pub counted_plain : (cells : List ℕ) {m n nans : ℕ} → nans ≡ turns (4 * m) (λ d sum. sum + nan_count cells d) 0 → m ≡ n → nans ≡ 0
     → Plain (4 * n) cells
-counted_plain cells {m} o e z = rw (← e) (sum_none (4 * m) (nan_count cells) _ (λ d w. none _ w) (sym o ∙ z))
+counted_plain cells {m} o e z = rw (← e) (sum_none (4 * m) (nan_count cells) _ (λ d w. none_counted _ w) (sym o ∙ z))
 
 -- rows in which it holds of none, one after the other
 some_rows : (m n : ℕ) (p : ℕ → Bool) → ((i : ℕ) → i < m → some n (λ d. p (i * n + d)) ≡ false) → some (m * n) p ≡ false
@@ -61,5 +61,5 @@ module _ (cells : List ℕ) (n : ℕ) where
   four_plain o z =
       some_rows 4 n _
       (λ i b. sum_none n four_nans _
-      (λ d w. some_none 4 i (λ i. nan_bits binary32 (f32_at cells (i * n + d))) (sum_none 4 (λ i. nan_count cells (i * n + d)) _ (λ j v. none _ v) w) b)
+      (λ d w. some_none 4 i (λ i. nan_bits binary32 (f32_at cells (i * n + d))) (sum_none 4 (λ i. nan_count cells (i * n + d)) _ (λ j v. none_counted _ v) w) b)
       (sym o ∙ z))
