@@ -5,7 +5,7 @@ ghost use Rattle.std.specs.Prelude.{◌≡◌, true, ◌≤◌};
 ghost use Rattle.replies.specs.Reply.{reply_number};
 ghost use Rattle.replies.specs.Outcome.{lowest};
 ghost use Rattle.shapes.specs.Format.{known, whole_groups_of, format_number, NumberOf};
-ghost use Rattle.shapes.specs.Shape.{cell_bytes_of, scale_words_of, total, cell_total, scale_total, up_to, limits, within, need_of, room_refusals};
+ghost use Rattle.shapes.specs.Shape.{cell_bytes_of, scale_words_of, total, cell_total, scale_total, limits, within, need_of, room_refusals};
 
 use replies::{Refusal, require};
 
