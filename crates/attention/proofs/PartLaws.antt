@@ -1,11 +1,14 @@
 -- A part of a block, n rows from row p on: it lies in the block, is a block of its own, and has the scores of its rows.
 -- Each holds since the part is n chunks of a row's size, r cells and v scale words.
-use mathlib.Core.Path.{◌≡◌}
+use mathlib.Core.Path.{◌≡◌, refl, ◌∙◌}
 use mathlib.Core.List.{List}
-use Prim.Native.Nat.{ℕ, ◌+◌, ◌*◌, ◌≤◌}
+use mathlib.Core.Logic.{◌⊎◌, inl, inr}
+use Prim.Native.Nat.{ℕ, ◌+◌, ◌-◌, ◌*◌, min, ◌≤◌, ◌<◌}
 use native.Mathlib.Nat.{add-mul, mul-le-mul_right}
 use native.Mathlib.Omega.{arith}
-use lib.ListN.{length}
+use Rattle.std.proofs.lemmas.Bool.{cases_lt}
+use lib.ListN.{length, drop, length-drop, drop_of_length-le}
+use lib.Seq.{take_all, take-nil}
 use lib.Ieee.{Float, binary32, mul}
 use Rattle.lists.specs.Chunks.{tab, part}
 use Rattle.lists.proofs.Part.{room, part_length, part-part}
@@ -30,6 +33,39 @@ rows_inside : (p n : ℕ) {format d m cells scales r v : ℕ} → RowsFit format
     → (p * r + n * r ≤ cells) × (p * v + n * v ≤ scales)
 rows_inside p n k e q h = (part_in _ p n e k.cell-bytes h, part_in _ p n q k.scale-words h)
 
+-- rows from row p on are the same where no more are asked for than there are
+past_end : (a b k n : ℕ) (l : List ℕ) → length l ≤ a → length l ≤ b → part a k l ≡ part b n l
+past_end a b k n l h g = rw (drop_of_length-le l h, drop_of_length-le l g, take-nil k, take-nil n)
+
+to_end : (a k n : ℕ) (l : List ℕ) → length l ≤ a + k → length l ≤ a + n → part a k l ≡ part a n l
+to_end a k n l h g =
+    let s : length (drop a l) ≤ k = simp length-drop (omega arith) in
+    let t : length (drop a l) ≤ n = simp length-drop (omega arith) in
+    rw (take_all k (drop a l) s, take_all n (drop a l) t)
+
+there_since : (p n m b : ℕ) {q k : ℕ} (l : List ℕ) → length l ≡ m * b → q ≡ min p m → k ≡ min n (m - q)
+    → (m < p) ⊎ (p ≤ m) → (m - p < n) ⊎ (n ≤ m - p) → part (q * b) (k * b) l ≡ part (p * b) (n * b) l
+there_since p n m b {q} {k} l e o w (inl h) g =
+    let s : q ≡ m = omega arith in
+    let t : m ≤ p = omega arith in
+    past_end (q * b) (p * b) (k * b) (n * b) l (rw s (omega arith)) (rw e (mul-le-mul_right b t))
+there_since p n m b {q} {k} l e o w (inr h) (inl g) =
+    let s : q ≡ p = omega arith in
+    let t : p + k ≡ m = omega arith in
+    let u : m ≤ p + n = omega arith in
+    rw s
+    (to_end (p * b) (k * b) (n * b) l
+    (rw (e, ← add-mul p k b, t) (omega arith))
+    (rw (e, ← add-mul p n b) (mul-le-mul_right b u)))
+there_since p n m b {q} {k} l e o w (inr h) (inr g) =
+    let s : q ≡ p = omega arith in
+    let t : k ≡ n = omega arith in
+    rw (s, t)
+
+rows_there : (p n m b : ℕ) {r size q k : ℕ} (l : List ℕ) → length l ≡ size → r ≡ b → size ≡ m * b → q ≡ min p m → k ≡ min n (m - q)
+    → part (q * r) (k * r) l ≡ part (p * r) (n * r) l
+rows_there p n m b l x e h o w = rw e (there_since p n m b l (x ∙ h) o w (cases_lt m p) (cases_lt (m - p) n))
+
 -- n rows of m are a block of their own
 some_rows : (format d m cells scales n : ℕ) {x y : ℕ} → ScoredRows format d m cells scales → n ≤ m → x ≡ n * cell_bytes_of format d → y ≡ n * scale_words_of format d
     → ScoredRows format d n x y
@@ -51,6 +87,14 @@ module _ (format d m : ℕ) (cells scales : List ℕ) (h : ScoredRows format d m
       rw o
       (some_rows format d m (length cells) (length scales) n h (omega arith) (part_count _ p n cells e k.cell-bytes b c)
       (part_count _ p n scales q k.scale-words b w))
+
+-- and of no more rows than there are, those from row p on are as many as there are
+module _ (format d m : ℕ) (cells scales : List ℕ) (h : ScoredRows format d m (length cells) (length scales)) (p n : ℕ) {r q k : ℕ} where
+  pub cells_there : r ≡ cell_bytes_of format d → q ≡ min p m → k ≡ min n (m - q) → part (q * r) (k * r) cells ≡ part (p * r) (n * r) cells
+  cells_there e o w = rows_there p n m _ cells refl e (fits_facts h.1).cell-bytes o w
+
+  pub scales_there : r ≡ scale_words_of format d → q ≡ min p m → k ≡ min n (m - q) → part (q * r) (k * r) scales ≡ part (p * r) (n * r) scales
+  scales_there e o w = rows_there p n m _ scales refl e (fits_facts h.1).scale-words o w
 
 module _ (format : ℕ) (query : List Float) (x : Float) (cells scales : List ℕ) where
   -- the score of row i

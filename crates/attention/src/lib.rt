@@ -8,17 +8,18 @@ ghost use Rattle.attention.specs.Order.{has_scores_of};
 ghost use Rattle.attention.specs.Block.{block_fits_of};
 
 use rows::rows_fit;
+use shapes::Format;
 
 // Whether a format has scores and sums.
 pub fn has_scores(format: u32) -> bool
     ensures { result ≡ has_scores_of format }
 {
-    match format {
-        0 => true,
-        1 => false,
-        2 => false,
-        3 => true,
-        _ => false,
+    match Format::try_from(format) {
+        Ok(Format::F32) => true,
+        Ok(Format::Bf16) => false,
+        Ok(Format::Int8) => false,
+        Ok(Format::Int4) => true,
+        Err(_) => false,
     }
 }
 

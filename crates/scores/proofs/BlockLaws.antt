@@ -10,7 +10,8 @@ use lib.Ieee.{Float, nan, binary32, mul}
 use Rattle.lists.specs.Chunks.{tab, turns, part}
 use Rattle.lists.proofs.Tab.{tab_same}
 use Rattle.numbers.specs.Word.{float, word}
-use Rattle.shapes.specs.Format.{layouts, whole_groups_of}
+use Rattle.shapes.specs.declared.Format.{Format}
+use Rattle.shapes.specs.Format.{layouts, format_number, whole_groups_of}
 use Rattle.shapes.specs.Shape.{cell_bytes_of, scale_words_of}
 use Rattle.shapes.specs.Buffers.{buffers}
 use Rattle.rows.proofs.FitLaws.{RowsFit, fits_facts}
@@ -37,10 +38,10 @@ four_f32_dots query cells e =
     ∙ tab_same 4 _ _ (λ i b. summed_same (length query) _ _ (λ d h. rw (row_number (length query) cells i d h)))
 
 -- the lengths of four rows in INT4
-pub four_of_int4 : (format d cells scales : ℕ) → ScoredRows format d 4 cells scales → format ≡ 3 → IsInt4 (4 * d) cells scales × (d % 32 ≡ 0) × (d ≤ 256)
+pub four_of_int4 : (d cells scales : ℕ) → ScoredRows 3 d 4 cells scales → IsInt4 (4 * d) cells scales × (d % 32 ≡ 0) × (d ≤ 256)
 unfolding cell_bytes_of scale_words_of whole_groups_of layouts
-four_of_int4 format d cells scales h e =
-    let k : RowsFit 3 d 4 cells scales = rw e at (fits_facts h.1) in
+four_of_int4 d cells scales h =
+    let k : RowsFit 3 d 4 cells scales = fits_facts h.1 in
     let w : d % 32 ≡ 0 = eqb-true (d % 32) 0 k.whole in
     (omega arith, w, k.small)
 
@@ -60,18 +61,18 @@ module _ (query : List Float) (cells scales : List ℕ) where
       let d = length query in
       dots ≡ tab 4 (λ i. row_dot format query (cells_of format d b i) (scales_in format d b i))
 
-  pub dots_f32 : {format : ℕ} {dots : List Float} → format ≡ 0
-      → dots ≡ tab 4 (λ i. f32_dot query (part (i * (length query * 4)) (length query * 4) cells)) → Dots format dots
+  pub dots_f32 : {dots : List Float}
+      → dots ≡ tab 4 (λ i. f32_dot query (part (i * (length query * 4)) (length query * 4) cells)) → Dots 0 dots
   unfolding row_dot scorings
-  dots_f32 e o = rw (e, f32_bytes (length query)) o
+  dots_f32 o = rw (f32_bytes (length query)) o
 
-  pub dots_int4 : {format : ℕ} {dots : List Float} → format ≡ 3 → length query % 32 ≡ 0
+  pub dots_int4 : {dots : List Float} → length query % 32 ≡ 0
       → dots
       ≡ tab 4
       (λ i. int4_dot query (part (i * (length query / 32 * 16)) (length query / 32 * 16) cells) (part (i * (length query / 32)) (length query / 32) scales))
-      → Dots format dots
+      → Dots 3 dots
   unfolding row_dot scorings
-  dots_int4 e h o = rw (e, int4_bytes (length query) h, int4_words (length query)) o
+  dots_int4 h o = rw (int4_bytes (length query) h, int4_words (length query)) o
 
   -- the words of the dots, each times the given scale, are the scores
   pub four_scores : (format : ℕ) (x : Float) (dots : List Float) {out : List ℕ} → Dots format dots
@@ -80,8 +81,8 @@ module _ (query : List Float) (cells scales : List ℕ) where
   four_scores format x dots o e = e ∙ rw o (map-tab (λ dot. word (mul binary32 dot x)) 4 _)
 
 -- the scores of n rows of a block from row p on
-pub scores_from : (b : Block) (query : List Float) (x : Float) (p n : ℕ) {k f : ℕ} {c w : List ℕ} → b.numbers ≡ length query → k ≡ n → f ≡ b.format
+pub scores_from : (b : Block) (query : List Float) (x : Float) (p n : ℕ) {k : ℕ} {f : Format} {c w : List ℕ} → b.numbers ≡ length query → k ≡ n → f ≡ b.format
     → c ≡ part (p * b.row_cells) (n * b.row_cells) b.cells.now → w ≡ part (p * b.row_scales) (n * b.row_scales) b.scales.now
-    → scores_of_block f query x (buffers c w) k ≡ tab n (λ i. score_at b.format query x b.cells.now b.scales.now (p + i))
+    → scores_of_block (format_number f) query x (buffers c w) k ≡ tab n (λ i. score_at (format_number b.format) query x b.cells.now b.scales.now (p + i))
 scores_from b query x p n q o e c w =
-    rw e (part_scores b.format query x b.cells.now b.scales.now p n (rw q at b.fits.1) (rw q at b.fits.2) o c w)
+    rw e (part_scores (format_number b.format) query x b.cells.now b.scales.now p n (rw q at b.fits.1) (rw q at b.fits.2) o c w)

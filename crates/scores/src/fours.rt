@@ -5,29 +5,30 @@ ghost use Rattle.std.specs.Float.Ieee.{mul};
 ghost use Rattle.lists.specs.Chunks.{tab, part};
 ghost use Rattle.numbers.specs.Word.{float, word};
 ghost use Rattle.rows.specs.Row.{f32_at};
+ghost use Rattle.shapes.specs.Format.{format_number};
 ghost use Rattle.shapes.specs.Buffers.{buffers};
 ghost use Rattle.attention.specs.Order.{f32_dot, row_dot, added};
 ghost use Rattle.attention.specs.Block.{cells_of, scales_in};
 ghost use Rattle.attention.specs.Fits.{IsF32};
 
 use crate::words::four_int4;
-use attention::block::{Block, word_at};
+use attention::block::Block;
 use numbers::words::{f32_to_word, word_to_f32};
+use shapes::Format;
 
 // The dots of four rows with a query.
 pub(crate) fn four_dots(four: &Block, query: &[f32]) -> [f32; 4]
     requires { (four.now.numbers ≡ length query.now) × (four.now.rows ≡ 4) }
     ensures { let b = buffers four.now.cells.now four.now.scales.now in
         let d = length query.now in
-        result
-        ≡ tab 4
-        (λ i. row_dot four.now.format query.now (cells_of four.now.format d b i) (scales_in four.now.format d b i)) }
+        let f = format_number four.now.format in
+        result ≡ tab 4 (λ i. row_dot f query.now (cells_of f d b i) (scales_in f d b i)) }
 {
-    // One test of two ways, which the back end takes out of the loop over the fours; past it the format is INT4.
-    if four.format == 0 {
-        return four_f32(query, four.cells);
+    // One test of two ways, which the back end takes out of the loop over the fours; past F32 the format is INT4.
+    match four.format {
+        Format::F32 => four_f32(query, four.cells),
+        _ => four_int4(query, four.cells, four.scales),
     }
-    four_int4(query, four.cells, four.scales)
 }
 
 // Stores the words of dots, each times the given scale.
@@ -57,7 +58,8 @@ fn add_numbers(q: f32, cells: &[u8], n: usize, d: usize, sums: &mut [f32; 4])
     requires { IsF32 (4 * n) (length cells.now) × (n ≤ 256) × (d < n) }
     ensures { sums.new ≡ added (λ i. mul binary32 q (float (f32_at cells.now (i * n + d)))) sums.old }
 {
+    let (words, _) = cells.as_chunks();
     for i in 0..4 {
-        sums[i] += q * word_to_f32(word_at(cells, i * n + d));
+        sums[i] += q * word_to_f32(u32::from_le_bytes(words[i * n + d]));
     }
 }

@@ -6,6 +6,7 @@ pub(crate) mod rest;
 pub(crate) mod words;
 
 ghost use Rattle.std.specs.Prelude.{◌≡◌, ◌++◌, ◌*◌, ◌/◌, length, drop};
+ghost use Rattle.shapes.specs.Format.{format_number};
 ghost use Rattle.shapes.specs.Buffers.{buffers};
 ghost use Rattle.replies.specs.Tried.{tells};
 ghost use Rattle.attention.specs.Block.{scores_of_block, block_scores_of};
@@ -37,7 +38,7 @@ pub fn block_scores(
 fn score_rows(block: &Block, query: &[f32], scale: f32, out: &mut [u32])
     requires { (block.now.numbers ≡ length query.now) × (block.now.rows ≡ length out.old) }
     ensures { out.new
-        ≡ scores_of_block block.now.format query.now scale (buffers block.now.cells.now block.now.scales.now) (length out.old) }
+        ≡ scores_of_block (format_number block.now.format) query.now scale (buffers block.now.cells.now block.now.scales.now) (length out.old) }
 {
     score_fours(block, query, scale, out);
     let p = out.len() / 4 * 4;
@@ -49,7 +50,7 @@ fn score_rows(block: &Block, query: &[f32], scale: f32, out: &mut [u32])
 fn score_fours(block: &Block, query: &[f32], scale: f32, out: &mut [u32])
     requires { (block.now.numbers ≡ length query.now) × (block.now.rows ≡ length out.old) }
     ensures { out.new
-        ≡ scores_of_block block.now.format query.now scale (buffers block.now.cells.now block.now.scales.now) (length out.old / 4 * 4)
+        ≡ scores_of_block (format_number block.now.format) query.now scale (buffers block.now.cells.now block.now.scales.now) (length out.old / 4 * 4)
         ++ drop (length out.old / 4 * 4) out.old }
 {
     for k in 0..out.len() / 4 {

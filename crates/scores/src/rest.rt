@@ -2,20 +2,22 @@
 ghost use Rattle.std.specs.Prelude.{◌≡◌, ◌*◌, length};
 ghost use Rattle.std.specs.Float.{binary32};
 ghost use Rattle.std.specs.Float.Ieee.{mul};
+ghost use Rattle.shapes.specs.Format.{format_number};
 ghost use Rattle.shapes.specs.Buffers.{buffers};
 ghost use Rattle.attention.specs.Block.{scores_of_block};
 ghost use Rattle.attention.specs.Order.{f32_dot, group_dot, int4_dot, row_dot};
 ghost use Rattle.attention.specs.Fits.{IsF32, IsInt4};
 
-use attention::block::{Block, word_at};
+use attention::block::Block;
 use numbers::codes::less_8;
 use numbers::words::{f32_to_word, word_to_f32};
+use shapes::Format;
 
 // Scores each row.
 pub(crate) fn score_rest(block: &Block, query: &[f32], scale: f32, out: &mut [u32])
     requires { (block.now.numbers ≡ length query.now) × (block.now.rows ≡ length out.old) }
     ensures { out.new
-        ≡ scores_of_block block.now.format query.now scale (buffers block.now.cells.now block.now.scales.now) (length out.old) }
+        ≡ scores_of_block (format_number block.now.format) query.now scale (buffers block.now.cells.now block.now.scales.now) (length out.old) }
 {
     for (p, score) in out.iter_mut().enumerate() {
         *score = f32_to_word(score_row(&block.part(p, 1), query, scale));
@@ -24,11 +26,11 @@ pub(crate) fn score_rest(block: &Block, query: &[f32], scale: f32, out: &mut [u3
 
 fn score_row(row: &Block, query: &[f32], scale: f32) -> f32
     requires { (row.now.numbers ≡ length query.now) × (row.now.rows ≡ 1) }
-    ensures { result ≡ mul binary32 (row_dot row.now.format query.now row.now.cells.now row.now.scales.now) scale }
+    ensures { result ≡ mul binary32 (row_dot (format_number row.now.format) query.now row.now.cells.now row.now.scales.now) scale }
 {
     match row.format {
-        0 => score_f32(query, scale, row.cells),
-        3 => score_int4(query, scale, row.cells, row.scales),
+        Format::F32 => score_f32(query, scale, row.cells),
+        Format::Int4 => score_int4(query, scale, row.cells, row.scales),
         _ => 0.0,
     }
 }
@@ -37,9 +39,10 @@ fn score_f32(query: &[f32], scale: f32, cells: &[u8]) -> f32
     requires { IsF32 (length query.now) (length cells.now) }
     ensures { result ≡ mul binary32 (f32_dot query.now cells.now) scale }
 {
+    let (words, _) = cells.as_chunks();
     let mut sum = 0.0;
     for (d, q) in query.iter().enumerate() {
-        sum += *q * word_to_f32(word_at(cells, d));
+        sum += *q * word_to_f32(u32::from_le_bytes(words[d]));
     }
     sum * scale
 }

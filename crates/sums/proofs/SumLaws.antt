@@ -10,6 +10,8 @@ use lib.Ieee.{Float, nan, binary32, add}
 use Rattle.lists.specs.Chunks.{turns, part}
 use Rattle.lists.proofs.Part.{part_length, part_chunk}
 use Rattle.lists.proofs.Turns.{turns_same, turns-add}
+use Rattle.shapes.specs.declared.Format.{Format}
+use Rattle.shapes.specs.Format.{format_number}
 use Rattle.shapes.specs.Buffers.{buffers}
 use Rattle.attention.specs.Order.{scorings, f32_term, row_term, added}
 use Rattle.attention.specs.Block.{block_term, rows_added}
@@ -20,12 +22,12 @@ use Rattle.attention.proofs.ScoringLaws.{f32_bytes, row_number}
 module _ (b : Block) (weights : List Float) where
   -- row p's terms added
   abbrev pub row_added : ℕ → List Float → List Float
-  row_added p = added (block_term b.format weights (buffers b.cells.now b.scales.now) b.numbers p)
+  row_added p = added (block_term (format_number b.format) weights (buffers b.cells.now b.scales.now) b.numbers p)
 
   -- the terms of k rows from row p on, which are lent as a part, after those of the rows before
-  pub rows_after : (p k : ℕ) (x : List Float) {f n : ℕ} {c w : List ℕ} {u : List Float} (y : List Float) {z : List Float} → p + k ≤ length weights
+  pub rows_after : (p k : ℕ) (x : List Float) {f : Format} {n : ℕ} {c w : List ℕ} {u : List Float} (y : List Float) {z : List Float} → p + k ≤ length weights
       → f ≡ b.format → n ≡ b.numbers → c ≡ part (p * b.row_cells) (k * b.row_cells) b.cells.now → w ≡ part (p * b.row_scales) (k * b.row_scales) b.scales.now
-      → u ≡ part p k weights → y ≡ turns p row_added x → z ≡ rows_added f u (buffers c w) n y → z ≡ turns (p + k) row_added x
+      → u ≡ part p k weights → y ≡ turns p row_added x → z ≡ rows_added (format_number f) u (buffers c w) n y → z ≡ turns (p + k) row_added x
   rows_after p k x y h ef en ec ew eu o g =
       rw (turns-add p k row_added x, ← o)
       (g

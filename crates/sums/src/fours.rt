@@ -3,6 +3,8 @@ ghost use Rattle.std.specs.Prelude.{◌≡◌, true, false, cond, ◌+◌, ◌*�
 ghost use Rattle.std.specs.Float.{nan, binary32};
 ghost use Rattle.std.specs.Float.Ieee.{add, nan_bits};
 ghost use Rattle.lists.specs.Chunks.{turns, some};
+ghost use Rattle.shapes.specs.Format.{format_number};
+ghost use Rattle.shapes.specs.declared.Format.TheVariants.{F32};
 ghost use Rattle.shapes.specs.Buffers.{buffers};
 ghost use Rattle.rows.specs.Row.{f32_at};
 ghost use Rattle.attention.specs.Order.{f32_term, added};
@@ -17,9 +19,9 @@ use attention::block::Block;
 pub(crate) fn add_f32_rows(block: &Block, weights: &[f32], out: &mut [f32])
     requires { (block.now.numbers ≡ length out.old)
         × (block.now.rows ≡ length weights.now)
-        × (block.now.format ≡ 0) }
+        × (block.now.format ≡ F32) }
     ensures { out.new
-        ≡ rows_added block.now.format weights.now (buffers block.now.cells.now block.now.scales.now) block.now.numbers out.old }
+        ≡ rows_added (format_number block.now.format) weights.now (buffers block.now.cells.now block.now.scales.now) block.now.numbers out.old }
 {
     let fours = (weights.len() / 4).saturating_sub(1);
     // The first four rows go the plain way: nobody has looked for a NaN in them.
@@ -39,13 +41,13 @@ pub(crate) fn add_f32_rows(block: &Block, weights: &[f32], out: &mut [f32])
 fn add_four(is_plain: bool, four: &Block, next: &Block, weights: &[f32], out: &mut [f32]) -> bool
     requires rows { (four.now.numbers ≡ length out.old)
         × (four.now.rows ≡ 4)
-        × (four.now.format ≡ 0)
+        × (four.now.format ≡ F32)
         × (length weights.now ≡ 4) }
-    requires behind { (next.now.numbers ≡ length out.old) × (next.now.rows ≡ 4) × (next.now.format ≡ 0) }
+    requires behind { (next.now.numbers ≡ length out.old) × (next.now.rows ≡ 4) × (next.now.format ≡ F32) }
     requires scanned { is_plain ≡ true
         → some (4 * length out.old) (λ d. nan_bits binary32 (f32_at four.now.cells.now d)) ≡ false }
     ensures sums { out.new
-        ≡ rows_added four.now.format weights.now (buffers four.now.cells.now four.now.scales.now) four.now.numbers out.old }
+        ≡ rows_added (format_number four.now.format) weights.now (buffers four.now.cells.now four.now.scales.now) four.now.numbers out.old }
     ensures scan { result ≡ true
         → some (4 * length out.old) (λ d. nan_bits binary32 (f32_at next.now.cells.now d)) ≡ false }
 {

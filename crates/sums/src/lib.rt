@@ -7,6 +7,7 @@ pub(crate) mod stored;
 
 ghost use Rattle.std.specs.Prelude.{◌≡◌, map, length};
 ghost use Rattle.numbers.specs.Word.{word};
+ghost use Rattle.shapes.specs.Format.{format_number};
 ghost use Rattle.shapes.specs.Buffers.{buffers};
 ghost use Rattle.replies.specs.Tried.{tells};
 ghost use Rattle.attention.specs.Block.{rows_added, sums_of_block, block_sums_of};
@@ -15,6 +16,7 @@ use attention::block::Block;
 use fours::add_f32_rows;
 use numbers::words::f32_to_word;
 use rest::add_rest;
+use shapes::Format;
 
 // Sums as many positions as there are weights, and answers whether what is lent is such a block. The second half of the Rust's `decode_head_attention_f32` and `decode_head_attention_int4`.
 pub fn block_sums(
@@ -38,7 +40,7 @@ pub fn block_sums(
 fn sum_rows(block: &Block, weights: &[f32], out: &mut [u32])
     requires { (block.now.numbers ≡ length out.old) × (block.now.rows ≡ length weights.now) }
     ensures { out.new
-        ≡ sums_of_block block.now.format weights.now (buffers block.now.cells.now block.now.scales.now) block.now.numbers }
+        ≡ sums_of_block (format_number block.now.format) weights.now (buffers block.now.cells.now block.now.scales.now) block.now.numbers }
 {
     let d = out.len();
     let mut sums = [0.0; 256];
@@ -59,11 +61,10 @@ fn put_sums(sums: &[f32], out: &mut [u32])
 fn add_rows(block: &Block, weights: &[f32], out: &mut [f32])
     requires { (block.now.numbers ≡ length out.old) × (block.now.rows ≡ length weights.now) }
     ensures { out.new
-        ≡ rows_added block.now.format weights.now (buffers block.now.cells.now block.now.scales.now) block.now.numbers out.old }
+        ≡ rows_added (format_number block.now.format) weights.now (buffers block.now.cells.now block.now.scales.now) block.now.numbers out.old }
 {
-    if block.format == 0 {
-        add_f32_rows(block, weights, out);
-        return;
+    match block.format {
+        Format::F32 => add_f32_rows(block, weights, out),
+        _ => add_rest(block, weights, out),
     }
-    add_rest(block, weights, out);
 }

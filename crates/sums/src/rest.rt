@@ -2,20 +2,23 @@
 ghost use Rattle.std.specs.Prelude.{◌≡◌, ◌*◌, length};
 ghost use Rattle.std.specs.Float.{binary32};
 ghost use Rattle.std.specs.Float.Ieee.{mul};
+ghost use Rattle.shapes.specs.Format.{format_number};
 ghost use Rattle.shapes.specs.Buffers.{buffers};
 ghost use Rattle.attention.specs.Order.{group_code, f32_term, int4_term, row_term, added};
 ghost use Rattle.attention.specs.Block.{rows_added};
 ghost use Rattle.attention.specs.Fits.{IsF32, IsInt4};
 
-use attention::block::{Block, word_at};
+use crate::stored::word_at;
+use attention::block::Block;
 use numbers::codes::less_8;
 use numbers::words::word_to_f32;
+use shapes::Format;
 
 // Adds the terms of each row, one row after the other.
 pub(crate) fn add_rest(block: &Block, weights: &[f32], out: &mut [f32])
     requires { (block.now.numbers ≡ length out.old) × (block.now.rows ≡ length weights.now) }
     ensures { out.new
-        ≡ rows_added block.now.format weights.now (buffers block.now.cells.now block.now.scales.now) block.now.numbers out.old }
+        ≡ rows_added (format_number block.now.format) weights.now (buffers block.now.cells.now block.now.scales.now) block.now.numbers out.old }
 {
     for (p, weight) in weights.iter().enumerate() {
         add_row(&block.part(p, 1), *weight, out);
@@ -24,11 +27,11 @@ pub(crate) fn add_rest(block: &Block, weights: &[f32], out: &mut [f32])
 
 fn add_row(row: &Block, weight: f32, out: &mut [f32])
     requires { (row.now.numbers ≡ length out.old) × (row.now.rows ≡ 1) }
-    ensures { out.new ≡ added (row_term row.now.format weight row.now.cells.now row.now.scales.now) out.old }
+    ensures { out.new ≡ added (row_term (format_number row.now.format) weight row.now.cells.now row.now.scales.now) out.old }
 {
     match row.format {
-        0 => add_f32(weight, row.cells, out),
-        3 => add_int4(weight, row.cells, row.scales, out),
+        Format::F32 => add_f32(weight, row.cells, out),
+        Format::Int4 => add_int4(weight, row.cells, row.scales, out),
         _ => {}
     }
 }

@@ -6,7 +6,14 @@ ghost use Rattle.lists.specs.Chunks.{turns};
 ghost use Rattle.numbers.specs.Word.{float};
 ghost use Rattle.rows.specs.Row.{f32_at};
 
-use attention::block::word_at;
+// The word of number `d` of F32 rows.
+pub(crate) fn word_at(cells: &[u8], d: usize) -> u32
+    requires { d * 4 + 4 ≤ length cells.now }
+    ensures { result ≡ f32_at cells.now d }
+{
+    let (words, _) = cells.as_chunks();
+    u32::from_le_bytes(words[d])
+}
 
 // Number `d` of an F32 row that is no NaN.
 pub(crate) fn plain_at(cells: &[u8], d: usize) -> f32

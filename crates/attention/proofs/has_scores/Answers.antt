@@ -1,25 +1,24 @@
 -- Each arm is a line of the table, and the last what the table has not.
-use native.Mathlib.Omega.{arith}
+use mathlib.Core.Path.{sym}
 use Rattle.attention.specs.Order.{scorings, has_scores_of}
-use Rattle.attention.proofs.ScoringLaws.{no-scoring}
+use Rattle.attention.proofs.ScoringLaws.{unscored}
 use Rattle.attention.proofs.has_scores.Goals as goal
 
-pub returns-in-0 : goal.returns-in-0
+pub returns-in-Ok-F32 : goal.returns-in-Ok-F32
 unfolding has_scores_of scorings
-returns-in-0 c = rw c.in-0.is
+returns-in-Ok-F32 c = rw (rw c.in-Ok-F32.field-0-is at c.in-Ok-F32.ensures)
 
-pub returns-in-1 : goal.returns-in-1
+pub returns-in-Ok-Bf16 : goal.returns-in-Ok-Bf16
 unfolding has_scores_of scorings
-returns-in-1 c = rw c.in-1.is
+returns-in-Ok-Bf16 c = rw (rw c.in-Ok-Bf16.field-0-is at c.in-Ok-Bf16.ensures)
 
-pub returns-in-2 : goal.returns-in-2
+pub returns-in-Ok-Int8 : goal.returns-in-Ok-Int8
 unfolding has_scores_of scorings
-returns-in-2 c = rw c.in-2.is
+returns-in-Ok-Int8 c = rw (rw c.in-Ok-Int8.field-0-is at c.in-Ok-Int8.ensures)
 
-pub returns-in-3 : goal.returns-in-3
+pub returns-in-Ok-Int4 : goal.returns-in-Ok-Int4
 unfolding has_scores_of scorings
-returns-in-3 c = rw c.in-3.is
+returns-in-Ok-Int4 c = rw (rw c.in-Ok-Int4.field-0-is at c.in-Ok-Int4.ensures)
 
-pub returns-in_default : goal.returns-in_default
-unfolding has_scores_of scorings
-returns-in_default c = rw (no-scoring c.args.format (omega arith))
+pub returns-in-Err : goal.returns-in-Err
+returns-in-Err c = sym (unscored _ c.in-Err.ensures)

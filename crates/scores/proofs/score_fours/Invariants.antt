@@ -4,9 +4,10 @@ use mathlib.Core.List.{◌++◌}
 use Prim.Native.Nat.{◌*◌}
 use lib.ListN.{drop}
 use Rattle.lists.specs.Chunks.{tab}
+use Rattle.shapes.specs.Format.{format_number}
 use Rattle.attention.proofs.PartLaws.{score_at}
 use Rattle.scores.proofs.score_fours.Given as goal
 
 abbrev pub invariant-loop-k : goal.invariant-loop-k
 invariant-loop-k l =
-    l.out ≡ tab (l.k * 4) (score_at l.block.format l.query l.scale l.block.cells.now l.block.scales.now) ++ drop (l.k * 4) l.initial.out
+    l.out ≡ tab (l.k * 4) (score_at (format_number l.block.format) l.query l.scale l.block.cells.now l.block.scales.now) ++ drop (l.k * 4) l.initial.out

@@ -4,6 +4,7 @@ use Prim.Native.Nat.{◌+◌, ◌-◌, ◌*◌, ◌/◌}
 use native.Mathlib.Omega.{arith}
 use lib.ListN.{length}
 use Rattle.lists.proofs.Tab.{tab_lent, tab-done}
+use Rattle.shapes.specs.Format.{format_number}
 use Rattle.attention.specs.Order.{scores_of}
 use Rattle.attention.specs.Block.{scores_of_block}
 use Rattle.attention.proofs.PartLaws.{score_at}
@@ -18,7 +19,7 @@ returns c =
     let m = length c.score_fours.new.out in
     let same : m ≡ length args.out.now = c.score_fours.auto.out in
     let p = m / 4 * 4 in
-    let score = score_at b.format args.query.now args.scale b.cells.now b.scales.now in
+    let score = score_at (format_number b.format) args.query.now args.scale b.cells.now b.scales.now in
     let whole : p + (m - p) ≡ m = omega arith in
     let rest = c.part-rest.ensures in
     let left = scores_from b args.query.now args.scale p (m - p) c.requires.0 (omega arith) rest.shape.0 rest.cells rest.scales in

@@ -4,6 +4,7 @@ use native.Mathlib.Omega.{arith}
 use lib.ListN.{length}
 use Rattle.lists.specs.Chunks.{turns}
 use Rattle.attention.specs.Order.{summed, f32_dot}
+use Rattle.decode.proofs.DecodeLaws.{number_at}
 use Rattle.attention.proofs.OrderLaws.{summed_next}
 use Rattle.scores.proofs.rest.score_f32.Goals as goal
 
@@ -12,7 +13,7 @@ unfolding summed turns
 loop-d-init c = refl
 
 pub loop-d-preserved : goal.loop-d-preserved
-loop-d-preserved c = summed_next _ _ c.loop-d.invariant (rw (c.word_to_f32.ensures, c.word_at.ensures))
+loop-d-preserved c = summed_next _ _ c.loop-d.invariant (rw (c.word_to_f32.ensures, c.from_le_bytes.ensures, number_at 3 c.loop-d.d c.args.cells.now c.as_chunks.ensures.front (omega arith)))
 
 pub returns : goal.returns
 unfolding f32_dot

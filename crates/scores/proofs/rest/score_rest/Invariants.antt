@@ -3,8 +3,9 @@ use mathlib.Core.Path.{◌≡◌}
 use mathlib.Core.List.{◌++◌}
 use lib.ListN.{drop}
 use Rattle.lists.specs.Chunks.{tab}
+use Rattle.shapes.specs.Format.{format_number}
 use Rattle.attention.proofs.PartLaws.{score_at}
 use Rattle.scores.proofs.rest.score_rest.Given as goal
 
 abbrev pub invariant-loop-p : goal.invariant-loop-p
-invariant-loop-p l = l.out ≡ tab l.p (score_at l.block.format l.query l.scale l.block.cells.now l.block.scales.now) ++ drop l.p l.initial.out
+invariant-loop-p l = l.out ≡ tab l.p (score_at (format_number l.block.format) l.query l.scale l.block.cells.now l.block.scales.now) ++ drop l.p l.initial.out

@@ -11,8 +11,8 @@ pub add_plain-requires-clause-lengths : goal.add_plain-requires-clause-lengths
 add_plain-requires-clause-lengths c =
     let rows = c.requires.rows in
     let behind = c.requires.behind in
-    let four = four_of_f32 _ _ _ _ (rw (rows.0, rows.1) at c.args.four.now.fits.0) rows.2 in
-    let next = four_of_f32 _ _ _ _ (rw (behind.0, behind.1) at c.args.next.now.fits.0) behind.2 in
+    let four = four_of_f32 _ _ _ (rw (rows.0, rows.1, rows.2) at c.args.four.now.fits.0) in
+    let next = four_of_f32 _ _ _ (rw (behind.0, behind.1, behind.2) at c.args.next.now.fits.0) in
     (rows.3, four.0, next.0, four.1)
 
 pub returns-then-is_plain : goal.returns-then-is_plain
@@ -27,7 +27,7 @@ returns-then-is_plain c =
 pub nans-requires : goal.nans-requires
 nans-requires c =
     let behind = c.requires.behind in
-    let next = four_of_f32 _ _ _ _ (rw (behind.0, behind.1) at c.args.next.now.fits.0) behind.2 in
+    let next = four_of_f32 _ _ _ (rw (behind.0, behind.1, behind.2) at c.args.next.now.fits.0) in
     omega (arith, next.0, next.1, c.add_rest.auto.out)
 
 pub returns-clause-scan : goal.returns-clause-scan
