@@ -1,13 +1,15 @@
 -- NaNs counted in F32 rows: where none is counted there is none, number by number or at each place of four rows.
 -- Each holds by the turns of a count.
-use mathlib.Core.Path.{◌≡◌, refl, sym, ◌∙◌}
+use mathlib.Core.Path.{◌≡◌, refl, sym, ap, ◌∙◌}
 use mathlib.Core.Bool.{Bool, true, false, cond, ◌||◌}
 use mathlib.Core.List.{List}
-use Prim.Native.Nat.{ℕ, zero, suc, ◌+◌, ◌*◌, ◌≤◌, ◌<◌}
-use native.Mathlib.Nat.{zero-mul, suc-mul}
+use Prim.Native.Nat.{ℕ, zero, suc, ◌+◌, ◌*◌, ◌/◌, ◌%◌, ◌≤◌, ◌<◌}
+use native.Mathlib.Nat.{zero-mul, suc-mul, mul-le-mul_right}
 use native.Mathlib.Omega.{arith}
+use lib.ListN.{length}
 use lib.Ieee.{binary32, nan_bits}
-use Rattle.lists.specs.Chunks.{turns, some}
+use Rattle.lists.specs.Chunks.{turns, some, part}
+use Rattle.lists.proofs.Part.{room, part-part}
 use Rattle.lists.proofs.Some.{some_none, sum_none, sum_most}
 use Rattle.lists.proofs.Turns.{turns-add}
 use Rattle.rows.specs.Row.{f32_at}
@@ -63,3 +65,19 @@ module _ (cells : List ℕ) (n : ℕ) where
       (λ i b. sum_none n four_nans _
       (λ d w. some_none 4 i (λ i. nan_bits binary32 (f32_at cells (i * n + d))) (sum_none 4 (λ i. nan_count cells (i * n + d)) _ (λ j v. none_counted _ v) w) b)
       (sym o ∙ z))
+
+-- two rows of four: number d of row i % 2 of half i / 2 is number d of row i, and where the half lies
+module _ (n half : ℕ) (e : half ≡ 8 * n) (i d : ℕ) (b : i < 4) (w : d < n) where
+  pub half_fits : (i / 2 * half + half ≤ 2 * half) × ((i % 2 * n + d) * 4 + 4 ≤ half) × (i * n + d < 4 * n)
+  half_fits =
+      let q : i / 2 ≤ 1 = omega arith in
+      let r : i % 2 ≤ 1 = omega arith in
+      (omega (arith, mul-le-mul_right half q), omega (arith, mul-le-mul_right n r), omega (arith, room n b))
+
+  pub half_number : (cells : List ℕ) → f32_at (part (i / 2 * half) half cells) (i % 2 * n + d) ≡ f32_at cells (i * n + d)
+  half_number cells =
+      let j : i ≡ 2 * (i / 2) + i % 2 = omega arith in
+      let k : i * n ≡ (2 * (i / 2) + i % 2) * n = ap (λ (m : ℕ). m * n) j in
+      let h = half_fits.1 in
+      let s : i / 2 * half + (i % 2 * n + d) * 4 ≡ (i * n + d) * 4 = rw e (omega arith) in
+      rw (part-part, s)

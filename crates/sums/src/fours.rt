@@ -93,6 +93,7 @@ struct Tally {
 }
 
 // The terms of number `d` of four rows of `n` numbers, while the same numbers of the next four rows are looked at.
+// Rows are lent two by two: beside eight places the back end has no room to take eight numbers at a time.
 fn with_terms(tally: Tally, weights: &[f32], cells: &[u8], next: &[u8], n: usize, d: usize) -> Tally
     requires lengths { (length weights.now ≡ 4)
         × IsF32 (4 * n) (length cells.now)
@@ -108,9 +109,17 @@ fn with_terms(tally: Tally, weights: &[f32], cells: &[u8], next: &[u8], n: usize
         ≡ tally.nans
         + turns 4 (λ i nans. nans + cond (nan_bits binary32 (f32_at next.now (i * n + d))) 1 0) 0 }
 {
+    let half = cells.len() / 2;
     let mut now = tally;
     for i in 0..4 {
-        now = with_term(now, weights[i], cells, next, i * n + d);
+        let a = i / 2 * half;
+        now = with_term(
+            now,
+            weights[i],
+            &cells[a..a + half],
+            &next[a..a + half],
+            i % 2 * n + d,
+        );
     }
     now
 }
