@@ -53,9 +53,11 @@ fn score_fours(block: &Block, query: &[f32], scale: f32, out: &mut [u32])
         ≡ scores_of_block block.now.format query.now scale (buffers block.now.cells.now block.now.scales.now) (length out.old / 4 * 4)
         ++ drop (length out.old / 4 * 4) out.old }
 {
+    // A copy, so that the loop reads none of it anew.
+    let rows = *block;
     for k in 0..out.len() / 4 {
         let p = k * 4;
-        let four = block.part(p, 4);
+        let four = rows.part(p, 4);
         put_scores(&four_dots(&four, query), scale, &mut out[p..p + 4]);
     }
 }
