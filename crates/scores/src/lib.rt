@@ -45,8 +45,7 @@ fn score_rows(block: &Block, query: &[f32], scale: f32, out: &mut [u32])
     score_rest(&rest, query, scale, &mut out[p..]);
 }
 
-// Scores four rows at a time, as many as there are, and leaves the rest. A function of its own in machine code too, which has registers for what the loops read.
-#[inline(never)]
+// Scores four rows at a time, as many as there are, and leaves the rest.
 fn score_fours(block: &Block, query: &[f32], scale: f32, out: &mut [u32])
     requires { (block.now.numbers ≡ length query.now) × (block.now.rows ≡ length out.old) }
     ensures { out.new
