@@ -46,17 +46,18 @@ fn score_rows(block: &Block, query: &[f32], scale: f32, out: &mut [u32])
     score_rest(&rest, query, scale, &mut out[p..]);
 }
 
-// Scores four rows at a time, as many as there are, and leaves the rest. A function of its own in machine code too, which has registers for what the loops read.
-#[inline(never)]
+// Scores four rows at a time, as many as there are, and leaves the rest.
 fn score_fours(block: &Block, query: &[f32], scale: f32, out: &mut [u32])
     requires { (block.now.numbers ≡ length query.now) × (block.now.rows ≡ length out.old) }
     ensures { out.new
         ≡ scores_of_block (format_number block.now.format) query.now scale (buffers block.now.cells.now block.now.scales.now) (length out.old / 4 * 4)
         ++ drop (length out.old / 4 * 4) out.old }
 {
+    // A copy, so that the loop reads none of it anew.
+    let rows = *block;
     for k in 0..out.len() / 4 {
         let p = k * 4;
-        let four = block.part(p, 4);
+        let four = rows.part(p, 4);
         put_scores(&four_dots(&four, query), scale, &mut out[p..p + 4]);
     }
 }

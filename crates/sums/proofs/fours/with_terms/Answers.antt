@@ -1,11 +1,11 @@
 -- The terms of the rows passed are added, and the NaNs of the next ones counted.
 use mathlib.Core.Path.{◌≡◌, refl}
-use Prim.Native.Nat.{ℕ, ◌+◌, ◌-◌, ◌*◌, ◌/◌, ◌%◌, ◌≤◌, ◌<◌}
-use native.Mathlib.Nat.{add-sub_cancel_left, mul-le-mul_right}
+use Prim.Native.Nat.{ℕ, ◌+◌, ◌-◌, ◌*◌, ◌/◌, ◌<◌}
+use native.Mathlib.Nat.{add-sub_cancel_left}
 use native.Mathlib.Omega.{arith}
 use lib.ListN.{length}
-use Rattle.lists.specs.Chunks.{turns, part}
-use Rattle.lists.proofs.Part.{room, part_length}
+use Rattle.lists.specs.Chunks.{turns}
+use Rattle.lists.proofs.Part.{part_length}
 use Rattle.lists.proofs.Some.{some_none, sum_most}
 use Rattle.lists.proofs.Turns.{turns_next, turns_turn}
 use Rattle.sums.proofs.NanLaws.{nan_count, one_at_most, half_number, half_fits}
@@ -34,8 +34,7 @@ with_term-now-requires c =
     let cells = part_length (i / 2 * half) half args.cells.now (omega (arith, h.0)) in
     let next = part_length (i / 2 * half) half args.next.now (omega (arith, h.0)) in
     let few = sum_most i 1 (λ i. nan_count args.next.now (i * n + args.d)) (λ i. one_at_most args.next.now (i * n + args.d)) in
-    rw k
-    (
+    rw k (
       omega (arith, h.1, cells),
       rw (half_number n half e i args.d c.loop-i-test.true w args.cells.now) (some_none _ (i * n + args.d) _ c.requires.plain h.2),
       omega (arith, h.1, next),
@@ -53,8 +52,7 @@ loop-i-preserved c =
     let k : i / 2 * half + half - i / 2 * half ≡ half = add-sub_cancel_left (i / 2 * half) half in
     let number = half_number n half e i args.d c.loop-i-test.true w in
     let count : ℕ → ℕ → ℕ = λ i nans. nans + nan_count args.next.now (i * n + args.d) in
-    let counted = rw (k, number args.next.now) at c.with_term-now.ensures.1 in
-    (
+    let counted = rw (k, number args.next.now) at c.with_term-now.ensures.1 in (
       turns_next _ _ _ c.loop-i.invariant.0 (rw (k, number args.cells.now) at c.with_term-now.ensures.0),
       omega (arith, turns_turn i count 0, counted),
     )
