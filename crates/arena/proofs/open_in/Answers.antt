@@ -1,6 +1,5 @@
 -- The store is made in what the shape is lent, and that is given back; refused, it comes back as it went.
-use mathlib.Core.Path.{refl, ap, ◌∙◌}
-use Rattle.replies.specs.Reply.{reply_number}
+use mathlib.Core.Path.{refl}
 use Rattle.replies.proofs.Tested.{not_done, handed_on}
 use Rattle.shapes.specs.Buffers.{buffers}
 use Rattle.arena.proofs.ArenaLaws.{open_done, open_refused}

@@ -2,7 +2,7 @@
 use mathlib.Core.Path.{refl}
 use native.Mathlib.Omega.{arith}
 use Rattle.replies.proofs.Tested.{done, call_done, call_refused}
-use Rattle.store.specs.Calls.{record_refusals, sequence_refusal, advance_of}
+use Rattle.store.specs.Calls.{advance_of}
 use Rattle.store.proofs.AcceptLaws.{sequence_fits}
 use Rattle.store.proofs.Record.advance_seq_len.Goals as goal
 

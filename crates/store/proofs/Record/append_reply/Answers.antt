@@ -1,17 +1,12 @@
 -- The store is asked first. Past it a position has a number.
 use mathlib.Core.Path.{◌≡◌, refl}
-use mathlib.Core.List.{List}
 use Prim.Native.Nat.{ℕ, ◌≤◌}
-use native.Mathlib.Nat.{div-le_self}
-use native.Mathlib.Omega.{arith}
-use lib.ListN.{length}
-use Rattle.replies.specs.Outcome.{Case, lowest}
+use Rattle.replies.specs.Outcome.{lowest}
 use Rattle.replies.specs.declared.Refusal.TheVariants.{Layer, Size, Full}
 use Rattle.replies.proofs.Tested.{done, required, unmet, met, first_refused, first_passed}
 use Rattle.shapes.specs.Shape.{width}
 use Rattle.shapes.proofs.ShapeLaws.{within-limits, width_in}
 use Rattle.store.specs.declared.Record.{Record}
-use Rattle.store.specs.Record.{length_of}
 use Rattle.store.specs.Calls.{lent_refusals}
 use Rattle.store.proofs.StoreLaws.{sound_store}
 use Rattle.store.proofs.Record.append_reply.Goals as goal

@@ -1,6 +1,6 @@
 -- The sum so far is that of the layers passed, and small.
 use mathlib.Core.Path.{◌≡◌}
-use Prim.Native.Nat.{◌+◌, ◌-◌, ◌*◌, ◌≤◌}
+use Prim.Native.Nat.{◌+◌, ◌*◌, ◌≤◌}
 use Rattle.lists.specs.Chunks.{turns}
 use Rattle.store.specs.Record.{length_of, position_bytes_of}
 use Rattle.store.proofs.Record.bytes_of_layers.Given as goal

@@ -1,8 +1,7 @@
 -- Refused, there is no count, and done, it is the layer's length.
-use mathlib.Core.Path.{refl, ◌∙◌}
-use Rattle.replies.specs.declared.Refusal.TheVariants.{Layer}
-use Rattle.replies.proofs.Tested.{required, call_done, call_refused, first_refused, first_passed}
-use Rattle.store.specs.Calls.{record_refusals, remove_refusals, cached_len_of}
+use mathlib.Core.Path.{◌∙◌}
+use Rattle.replies.proofs.Tested.{call_done, call_refused}
+use Rattle.store.specs.Calls.{cached_len_of}
 use Rattle.store.proofs.StoreLaws.{counted_none}
 use Rattle.store.proofs.Record.cached_len.Goals as goal
 

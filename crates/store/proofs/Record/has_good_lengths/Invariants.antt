@@ -1,7 +1,7 @@
 -- The lengths before place l are good, and one that is not ends the loop.
 use mathlib.Core.Path.{◌≡◌}
 use mathlib.Core.Bool.{false}
-use Prim.Native.Nat.{◌-◌, ◌≤◌}
+use Prim.Native.Nat.{◌≤◌}
 use lib.Dec.{ltb}
 use Rattle.lists.specs.Chunks.{some}
 use Rattle.store.specs.Record.{length_of, most_of}

@@ -6,7 +6,6 @@ use Rattle.replies.specs.Outcome.{◌when◌}
 use Rattle.replies.specs.declared.Refusal.TheVariants.{Shape, Lengths}
 use Rattle.replies.proofs.Tested.{required, first_refused, first_passed}
 use Rattle.shapes.specs.Shape.{within}
-use Rattle.store.specs.declared.Record.{Record}
 use Rattle.store.proofs.Record.reply.Goals as goal
 
 pub returns-in_err-require : goal.returns-in_err-require
