@@ -2,7 +2,7 @@
 -- Each holds by the definition, at what the part before answered.
 use mathlib.Core.Path.{◌≡◌, ap, ◌∙◌}
 use mathlib.Core.List.{List, ◌++◌}
-use Prim.Native.Nat.{ℕ, ◌+◌, ◌-◌, ◌*◌, ◌≤◌}
+use Prim.Native.Nat.{ℕ, ◌+◌, ◌*◌, ◌≤◌}
 use native.Mathlib.Omega.{arith}
 use lib.ListN.{length, take, drop}
 use lib.Seq.{take_at, length-take-le}
@@ -15,7 +15,7 @@ use Rattle.arena.specs.Calls.{append_in_of}
 use Rattle.printing.specs.Place.{over}
 use Rattle.printing.specs.Text.{Laid, laid_at}
 use Rattle.printing.proofs.LaidLaws.{laid_there}
-use Rattle.replay.specs.Step.{Printed, Effect, answers, effect_of, walk, Step, step_of}
+use Rattle.replay.specs.Step.{Printed, Effect, effect_of, walk, Step, step_of}
 use Rattle.replay.specs.Transcript.{text_of, Play}
 use Rattle.replay.specs.Turn.{turned}
 

@@ -1,8 +1,6 @@
 -- The store's promise, with its reply as a number and its record as words; refused, those of no store.
-use mathlib.Core.Path.{ap, ◌∙◌}
-use Rattle.shapes.specs.Buffers.{buffers}
-use Rattle.host.specs.Words.{record_from}
-use Rattle.host.proofs.WordLaws.{as_told, as_seen, opened_told}
+use mathlib.Core.Path.{◌∙◌}
+use Rattle.host.proofs.WordLaws.{as_seen, opened_told}
 use Rattle.host.proofs.kv_open.Goals as goal
 
 pub returns : goal.returns
