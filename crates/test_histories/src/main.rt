@@ -4,12 +4,12 @@
 
 mod calls;
 mod fresh;
-mod session;
+mod history;
 mod show;
 mod stores;
 
 use calls::{Call, words_of};
-use session::Session;
+use history::History;
 use std::io;
 
 fn main(rt: HostRuntime) -> io::Result<()> {
@@ -20,10 +20,10 @@ fn main(rt: HostRuntime) -> io::Result<()> {
 
 // One call after the other.
 fn play(rt: &(impl Print + AllocGlobal), text: &[u8]) -> io::Result<()> {
-    let mut session = Session::new(rt.alloc())?;
+    let mut history = History::new(rt.alloc())?;
     for line in text.split_inclusive(|b| *b == b'\n') {
         let words = words_of(rt.alloc(), line.strip_suffix(b"\n").unwrap_or(line))?;
-        session.play(rt, Call::from(words.as_slice()))?;
+        history.play(rt, Call::from(words.as_slice()))?;
     }
     Ok(())
 }

@@ -14,15 +14,15 @@ const UNWRITTEN: u32 = 0xFF80_DEAD;
 const MOST_PLACES: usize = 256;
 
 #[derive(Drop)]
-pub(crate) struct Session {
+pub(crate) struct History {
     store: Store,
     // None once some did not fit.
     survivors: Option<Survivors>,
 }
 
-impl Session {
+impl History {
     pub(crate) fn new(alloc: Global) -> Result<Self, AllocError> {
-        Ok(Session {
+        Ok(History {
             store: Store::new(alloc, 0xA5, 2048, 256)?,
             survivors: Some(Survivors::new(alloc)?),
         })
