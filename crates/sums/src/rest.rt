@@ -20,8 +20,8 @@ pub(crate) fn add_rest(block: &Block, weights: &[f32], out: &mut [f32])
     ensures { out.new
         ≡ rows_added (format_number block.now.format) weights.now (buffers block.now.cells.now block.now.scales.now) block.now.numbers out.old }
 {
-    for (p, weight) in weights.iter().enumerate() {
-        add_row(&block.part(p, 1), *weight, out);
+    for p in 0..block.rows {
+        add_row(&block.part(p, 1), weights[p], out);
     }
 }
 
