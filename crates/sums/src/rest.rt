@@ -20,8 +20,10 @@ pub(crate) fn add_rest(block: &Block, weights: &[f32], out: &mut [f32])
     ensures { out.new
         ≡ rows_added (format_number block.now.format) weights.now (buffers block.now.cells.now block.now.scales.now) block.now.numbers out.old }
 {
-    for (p, weight) in weights.iter().enumerate() {
-        add_row(&block.part(p, 1), *weight, out);
+    // A copy, so that the loop reads none of it anew.
+    let all = *block;
+    for p in 0..all.rows {
+        add_row(&all.part(p, 1), weights[p], out);
     }
 }
 
