@@ -22,8 +22,8 @@ pub(crate) fn add_rest(block: &Block, weights: &[f32], out: &mut [f32])
 {
     // A copy, so that the loop reads none of it anew.
     let all = *block;
-    for p in 0..all.rows {
-        add_row(&all.part(p, 1), weights[p], out);
+    for (p, weight) in weights.iter().enumerate() {
+        add_row(&all.part(p, 1), *weight, out);
     }
 }
 
