@@ -105,15 +105,11 @@ enum Side {
     Values,
 }
 
-impl Side {
-    fn number(self) -> u32
-        ensures value { result ≡ side_number self }
-        ensures below { result < 2 }
-    {
-        match self {
-            Side::Keys => 0,
-            Side::Values => 1,
-        }
+impl From<Side> for u32 {
+    ghost from_gives = { λ side number. number ≡ side_number side };
+
+    fn from(side: Side) -> u32 {
+        side as u32
     }
 }
 
@@ -194,7 +190,7 @@ impl Run {
             → (cells.new ≡ written_side (bytes_of self.shape) self.shape self.layer (side_number side) self.p self.n rows cells.old)
             × (scales.new ≡ written_side (words_of self.shape) self.shape self.layer (side_number side) self.p self.n rows' scales.old) }
     {
-        let side = side.number();
+        let side = u32::from(side);
         let first = span_of(self.shape, self.layer, side, 0, self.p, self.n);
         let c = cell_bytes(self.shape.format, self.shape.head_size);
         let w = scale_words(self.shape.format, self.shape.head_size);

@@ -9,7 +9,7 @@ ghost use Rattle.numbers.specs.Scale.{scale_of};
 ghost use Rattle.numbers.specs.Code.{code8, code4, read8};
 ghost use Rattle.groups.specs.Group.{group_reply, pack_into, unpack_into};
 ghost use Rattle.shapes.specs.Buffers.{buffers};
-ghost use Rattle.store.specs.Calls.{open_of, append_of, truncate_of, advance_of, cached_len_of, memory_bytes_of, read_of};
+ghost use Rattle.store.specs.Calls.{open_of, append_of, truncate_of, advance_of, cached_len_of, memory_bytes_of, read_of, counted};
 ghost use Rattle.heads.specs.Calls.{head_scores_of, head_sums_of};
 ghost use Rattle.host.specs.Words.{record_from, shape_of, need, need_replied, seen, replied};
 
@@ -185,18 +185,22 @@ pub fn kv_advance(rec: &mut [u32; 134], count: u32) -> u32
 pub fn kv_cached_len(rec: &[u32; 134], layer: u32, count: &mut u64) -> u32
     ensures { replied result count.new ≡ cached_len_of (record_from rec.now) layer }
 {
-    let counted = record_of(rec).cached_len(layer);
-    *count = counted.unwrap_or(0);
-    number(counted)
+    told(record_of(rec).cached_len(layer), count)
 }
 
 // The bytes of all rows, in `count`.
 pub fn kv_memory_bytes(rec: &[u32; 134], count: &mut u64) -> u32
     ensures { replied result count.new ≡ memory_bytes_of (record_from rec.now) }
 {
-    let counted = record_of(rec).memory_bytes();
-    *count = counted.unwrap_or(0);
-    number(counted)
+    told(record_of(rec).memory_bytes(), count)
+}
+
+// A count in `count`, 0 where it is refused, beside the reply's number.
+fn told(answer: Result<u64, Refusal>, count: &mut u64) -> u32
+    ensures { replied result count.new ≡ counted answer }
+{
+    *count = answer.unwrap_or(0);
+    number(answer)
 }
 
 // Reads one position of a side and head into `out`.

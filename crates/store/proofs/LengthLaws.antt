@@ -1,7 +1,7 @@
 -- How a layer's length is got and set, whatever the record keeps it in: a new record, one length set, and records that are the same.
 -- Each holds by the laws of a list's elements, since a record has a length for each of 128 layers.
-use mathlib.Core.Path.{◌≡◌, sym, ◌∙◌}
-use mathlib.Core.Bool.{true}
+use mathlib.Core.Path.{◌≡◌, refl, sym, ◌∙◌}
+use mathlib.Core.Bool.{Bool, true, false}
 use mathlib.Core.Logic.{◌≢◌}
 use Prim.Native.Nat.{ℕ, ◌≤◌, ◌<◌}
 use native.Mathlib.Omega.{arith}
@@ -9,8 +9,8 @@ use native.Mathlib.Decide.{dec_lt}
 use lib.Dec.{ltb}
 use lib.ListN.{length, get_or, replicate, length-set, length-replicate, get_or-replicate, get_or-eq_default}
 use lib.Seq.{get_or-set_same, get_or-set_other, ext_get_or}
-use borrow.Author.Tests.{le-ltb}
-use Rattle.lists.proofs.Some.{some_never}
+use borrow.Author.Tests.{lt-ltb, le-ltb}
+use Rattle.lists.proofs.Some.{some_never, some_found}
 use Rattle.shapes.specs.declared.Shape.{Shape}
 use Rattle.shapes.specs.Shape.{within}
 use Rattle.shapes.proofs.ShapeLaws.{limits_facts, within-limits}
@@ -58,3 +58,12 @@ pub same_record : {r r' : Record} (n : ℕ) → HasLengths r → HasLengths r' �
 same_record {r} {r'} n x x' s e =
     let d = ext_get_or 0 r.lens r'.lens (x.count ∙ sym x'.count) (λ l w. e l (omega arith)) in
     rw (s, d)
+
+-- where no length is over its most, or one is, a test says whether they are good
+pub good_told : (r : Record) (b : Bool) → (b ≡ true → (l : ℕ) → l < 128 → length_of r l ≤ most_of r.shape l)
+    → (b ≡ false → (l : ℕ) × (l < 128) × (most_of r.shape l < length_of r l)) → b ≡ good_lengths r
+unfolding good_lengths
+good_told r true x y = rw (some_never 128 (λ l. ltb (most_of r.shape l) (length_of r l)) (λ l w. le-ltb _ _ (x refl l w)))
+good_told r false x y =
+    let h = y refl in
+    rw (some_found 128 h.0 (λ l. ltb (most_of r.shape l) (length_of r l)) h.1 (lt-ltb _ _ h.2))

@@ -110,7 +110,7 @@ impl Record {
         ensures { counted result ≡ cached_len_of self.now layer }
     {
         self.layer_reply(layer)?;
-        Ok(self.length_of(layer) as u64)
+        Ok(u64::from(self.length_of(layer)))
     }
 
     // The bytes of all rows, scale words too. The Rust's `memory_bytes`.
@@ -238,12 +238,10 @@ impl Record {
     fn has_good_lengths(&self) -> bool
         ensures { result ≡ good_lengths self.now }
     {
-        for (l, len) in self.lens.iter().enumerate() {
-            if most_of(self.shape, l) < *len {
-                return false;
-            }
-        }
-        true
+        self.lens
+            .iter()
+            .enumerate()
+            .all(|(l, len)| *len <= most_of(self.shape, l))
     }
 
     // The positions of a layer; 0 past the array.
@@ -270,8 +268,8 @@ impl Record {
     {
         let each = position_bytes(self.shape);
         let mut sum = 0;
-        for l in 0..self.shape.layers as usize {
-            sum += self.lens[l] as u64 * each;
+        for len in &self.lens[..self.shape.layers as usize] {
+            sum += u64::from(*len) * each;
         }
         sum
     }

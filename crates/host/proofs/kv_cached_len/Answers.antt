@@ -1,7 +1,6 @@
--- The store's promise of the record that the words are, with its reply as a number, and no count where it is refused.
-use mathlib.Core.Path.{refl, ◌∙◌}
-use Rattle.host.proofs.WordLaws.{as_told, counted_told}
+-- The store's promise of the record that the words are, as it is told.
+use mathlib.Core.Path.{◌∙◌}
 use Rattle.host.proofs.kv_cached_len.Goals as goal
 
 pub returns : goal.returns
-returns c = as_told c.number.ensures refl (counted_told c.cached_len-counted.result c.unwrap_or.ensures ∙ rw c.record_of.ensures at c.cached_len-counted.ensures)
+returns c = c.told.ensures ∙ rw c.record_of.ensures at c.cached_len.ensures

@@ -10,14 +10,14 @@ loop-h-init g c = λ rows rows' leaves. (no_heads, no_heads)
 pub write-requires : goal.write-requires
 write-requires g c =
     let room = room_kept c.requires.room c.loop-h.auto.cells c.loop-h.auto.scales in
-    let k = ends_in c.args.self.inside c.number-side.ensures.below c.loop-h-test.true c.head-span.ensures.value room in
+    let k = ends_in c.args.self.inside (side_below c.args.side) c.loop-h-test.true (rw c.from-side.ensures at c.head-span.ensures.value) room in
     c.requires.accepts _ c.loop-h-test.true _ _ (ends_size _ k.cells_at) (ends_size _ k.words_at)
 
 pub loop-h-preserved : goal.loop-h-preserved
 loop-h-preserved g c = λ rows rows' leaves.
     let room = room_kept c.requires.room c.loop-h.auto.cells c.loop-h.auto.scales in
     let w = c.loop-h-test.true in
-    let k = ends_in c.args.self.inside (side_below c.args.side) w (rw c.number-side.ensures.value at c.head-span.ensures.value) room in
+    let k = ends_in c.args.self.inside (side_below c.args.side) w (rw c.from-side.ensures at c.head-span.ensures.value) room in
     let l = c.loop-h.invariant rows rows' leaves in
     let m = leaves _ w _ _ _ _ (ends_size _ k.cells_at) (ends_size _ k.words_at) c.write.ensures in (
       head_turn l.0 (c.write.auto.arg3 ∙ ends_size _ k.cells_at) w k.cells_at m.0,

@@ -11,4 +11,4 @@ returns-in_err-layer_reply c = counted_none _ c.from_residual.ensures.0 ∙ call
 
 pub returns : goal.returns
 unfolding cached_len_of
-returns c = call_done _ c.layer_reply.ensures _ c.in_ok-layer_reply.was c.length_of.ensures
+returns c = call_done _ c.layer_reply.ensures _ c.in_ok-layer_reply.was (c.from.ensures ∙ c.length_of.ensures)
