@@ -47,8 +47,8 @@ fn four_f32(query: &[f32], cells: &[u8]) -> [f32; 4]
         ≡ tab 4 (λ i. f32_dot query.now (part (i * (length query.now * 4)) (length query.now * 4) cells.now)) }
 {
     let mut sums = [0.0; 4];
-    for d in 0..query.len() {
-        add_numbers(query[d], cells, query.len(), d, &mut sums);
+    for (d, q) in query.iter().enumerate() {
+        add_numbers(*q, cells, query.len(), d, &mut sums);
     }
     sums
 }
@@ -59,7 +59,7 @@ fn add_numbers(q: f32, cells: &[u8], n: usize, d: usize, sums: &mut [f32; 4])
     ensures { sums.new ≡ added (λ i. mul binary32 q (float (f32_at cells.now (i * n + d)))) sums.old }
 {
     let (words, _) = cells.as_chunks();
-    for i in 0..4 {
-        sums[i] += q * word_to_f32(u32::from_le_bytes(words[i * n + d]));
+    for (i, sum) in sums.iter_mut().enumerate() {
+        *sum += q * word_to_f32(u32::from_le_bytes(words[i * n + d]));
     }
 }

@@ -31,7 +31,7 @@ fn score_row(row: &Block, query: &[f32], scale: f32) -> f32
     match row.format {
         Format::F32 => score_f32(query, scale, row.cells),
         Format::Int4 => score_int4(query, scale, row.cells, row.scales),
-        _ => 0.0,
+        Format::Bf16 | Format::Int8 => unreachable!(),
     }
 }
 

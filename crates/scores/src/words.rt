@@ -51,9 +51,9 @@ fn add_words(query: &[f32], cells: &[u8], w: usize, g: usize, k: usize, sums: &m
         ≡ tab 4
         (λ i. turns 4 (λ j. add_byte query.now (part ((i * w + g) * 16) 16 cells.now) (k + j)) (get_or sums.old i nan)) }
 {
-    for i in 0..4 {
+    for (i, sum) in sums.iter_mut().enumerate() {
         let a = (i * w + g) * 16;
-        sums[i] = lane_word(sums[i], query, &cells[a..a + 16], k);
+        *sum = lane_word(*sum, query, &cells[a..a + 16], k);
     }
 }
 
@@ -76,8 +76,8 @@ fn add_groups(sums: [f32; 4], scales: &[u32], w: usize, g: usize, totals: &mut [
     ensures { totals.new
         ≡ added (λ i. mul binary32 (get_or sums i nan) (float (get_or scales.now (i * w + g) 0))) totals.old }
 {
-    for i in 0..4 {
-        totals[i] += sums[i] * word_to_f32(scales[i * w + g]);
+    for (i, total) in totals.iter_mut().enumerate() {
+        *total += sums[i] * word_to_f32(scales[i * w + g]);
     }
 }
 

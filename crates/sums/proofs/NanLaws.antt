@@ -7,6 +7,7 @@ use Prim.Native.Nat.{ℕ, zero, suc, ◌+◌, ◌*◌, ◌/◌, ◌%◌, ◌≤�
 use native.Mathlib.Nat.{zero-mul, suc-mul, mul-le-mul_right}
 use native.Mathlib.Omega.{arith}
 use lib.Ieee.{binary32, nan_bits}
+use Rattle.std.specs.Int.{from_bool}
 use Rattle.lists.specs.Chunks.{turns, some, part}
 use Rattle.lists.proofs.Part.{room, part-part}
 use Rattle.lists.proofs.Some.{some_none, sum_none, sum_most}
@@ -16,6 +17,10 @@ use Rattle.rows.specs.Row.{f32_at}
 -- 1 for what holds, 0 for what does not
 abbrev one_if : Bool → ℕ
 one_if b = cond b 1 0
+
+pub bit : (b : Bool) → from_bool b ≡ one_if b
+bit true = refl
+bit false = refl
 
 most : (b : Bool) → one_if b ≤ 1
 most true = omega arith

@@ -34,7 +34,7 @@ fn add_row(row: &Block, weight: f32, out: &mut [f32])
     match row.format {
         Format::F32 => add_f32(weight, row.cells, out),
         Format::Int4 => add_int4(weight, row.cells, row.scales, out),
-        _ => {}
+        Format::Bf16 | Format::Int8 => unreachable!(),
     }
 }
 

@@ -28,11 +28,7 @@ pub(crate) fn nan_at(cells: &[u8], d: usize) -> u32
     requires { d * 4 + 4 ≤ length cells.now }
     ensures { result ≡ cond (nan_bits binary32 (f32_at cells.now d)) 1 0 }
 {
-    if 0x7F80_0000 < word_at(cells, d) % 0x8000_0000 {
-        1
-    } else {
-        0
-    }
+    u32::from(0x7F80_0000 < word_at(cells, d) % 0x8000_0000)
 }
 
 // How many of the first `n` numbers of F32 rows are NaN.

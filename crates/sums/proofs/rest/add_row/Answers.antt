@@ -1,4 +1,5 @@
 -- Each arm is a format that has sums, with the lengths that it has; no other is asked for.
+use native.Mathlib.Omega.{arith}
 use Rattle.attention.specs.Order.{scorings, row_term, added}
 use Rattle.attention.proofs.ScoringLaws.{f32_row, int4_row, scored_other}
 use Rattle.sums.proofs.rest.add_row.Goals as goal
@@ -17,5 +18,5 @@ pub returns-in-Int4 : goal.returns-in-Int4
 unfolding row_term scorings added
 returns-in-Int4 c = rw c.in-Int4.is c.add_int4.ensures
 
-pub returns-in_default : goal.returns-in_default
-returns-in_default c = absurd (scored_other _ c.args.row.now.fits.0.0 c.in_default.not-F32 c.in_default.not-Int4)
+pub unreachable-requires : goal.unreachable-requires
+unreachable-requires c = scored_other _ c.args.row.now.fits.0.0 (λ a. grind (arith, a, c.in-Bf16.is)) (λ a. grind (arith, a, c.in-Bf16.is))

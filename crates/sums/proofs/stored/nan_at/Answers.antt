@@ -1,17 +1,14 @@
 -- A word is a NaN's where it lies past infinity's, its sign dropped.
 use mathlib.Core.Path.{◌≡◌, ◌∙◌}
-use mathlib.Core.Bool.{true, false}
-use borrow.Author.Tests.{lt-ltb, le-ltb}
+use Prim.Native.Nat.{◌%◌}
+use lib.Dec.{ltb}
 use lib.Ieee.{binary32, nan_bits}
 use lib.Ieee.Bits.{nan_bits_above}
+use Rattle.sums.proofs.NanLaws.{bit}
 use Rattle.sums.proofs.stored.nan_at.Goals as goal
 
-pub returns-then-word_at-gt2139095040 : goal.returns-then-word_at-gt2139095040
-returns-then-word_at-gt2139095040 c =
-    let e : nan_bits binary32 c.word_at.result ≡ true = nan_bits_above binary32 _ ∙ lt-ltb _ _ c.if-word_at-gt2139095040.true in
-    rw (rw c.word_at.ensures at e)
-
-pub returns-else-word_at-gt2139095040 : goal.returns-else-word_at-gt2139095040
-returns-else-word_at-gt2139095040 c =
-    let e : nan_bits binary32 c.word_at.result ≡ false = nan_bits_above binary32 _ ∙ le-ltb _ _ c.if-word_at-gt2139095040.false in
-    rw (rw c.word_at.ensures at e)
+pub returns : goal.returns
+returns c =
+    let w = c.word_at.result in
+    let e : nan_bits binary32 w ≡ ltb 2139095040 (w % 2147483648) = nan_bits_above binary32 w in
+    rw (← c.word_at.ensures, e) (c.from.ensures ∙ bit _)
