@@ -26,14 +26,13 @@ pub(crate) struct Survivors {
 impl Survivors {
     // Those of an empty store.
     pub(crate) fn new(alloc: Global) -> Result<Self, AllocError> {
-        let mut layers = Vec::new(alloc);
-        for _ in 0..MOST_LAYERS {
-            layers.push(Layer {
-                keys: Vec::new(alloc),
-                values: Vec::new(alloc),
-            })?;
-        }
-        Ok(Survivors { layers })
+        let layers = (0..MOST_LAYERS).map(|_| Layer {
+            keys: Vec::new(alloc),
+            values: Vec::new(alloc),
+        });
+        Ok(Survivors {
+            layers: layers.collect(alloc)?,
+        })
     }
 
     // Puts `count` keys and as many values after those of a layer, 0 for each that is not given; false where they do not fit.

@@ -2,7 +2,7 @@
 use crate::calls::Call;
 use crate::fresh::{self, Survivors};
 use crate::show;
-use crate::stores::Store;
+use crate::stores::{Store, damage};
 use numbers::words::word_to_f32;
 use std::alloc::{AllocError, Global};
 use std::io;
@@ -64,12 +64,12 @@ impl History {
             Call::CachedLen { layer } => {
                 let mut count = 0;
                 let reply = host::kv_cached_len(&self.store.record, layer, &mut count);
-                println!(rt; "reply {reply} count {count}")
+                show::count(rt, reply, count)
             }
             Call::MemoryBytes => {
                 let mut count = 0;
                 let reply = host::kv_memory_bytes(&self.store.record, &mut count);
-                println!(rt; "reply {reply} count {count}")
+                show::count(rt, reply, count)
             }
             Call::ReadRow {
                 layer,
@@ -78,9 +78,9 @@ impl History {
                 position,
                 places,
             } => {
-                let mut out = output(rt.alloc(), places)?;
-                let reply = self.store.read_row(layer, side, head, position, &mut out);
-                show::output(rt, reply, &out)
+                tell_output(rt, places, |out| {
+                    self.store.read_row(layer, side, head, position, out)
+                })
             }
             Call::Scores {
                 layer,
@@ -90,10 +90,10 @@ impl History {
                 query,
             } => {
                 let query = floats(rt.alloc(), query)?;
-                let mut out = output(rt.alloc(), places)?;
                 let scale = word_to_f32(scale);
-                let reply = self.store.scores(layer, head, &query, scale, &mut out);
-                show::output(rt, reply, &out)
+                tell_output(rt, places, |out| {
+                    self.store.scores(layer, head, &query, scale, out)
+                })
             }
             Call::Sums {
                 layer,
@@ -102,9 +102,9 @@ impl History {
                 weights,
             } => {
                 let weights = floats(rt.alloc(), weights)?;
-                let mut out = output(rt.alloc(), places)?;
-                let reply = self.store.sums(layer, head, &weights, &mut out);
-                show::output(rt, reply, &out)
+                tell_output(rt, places, |out| {
+                    self.store.sums(layer, head, &weights, out)
+                })
             }
             Call::Lend { cells, scales } => {
                 self.store.cells.lend(cells);
@@ -112,15 +112,15 @@ impl History {
                 Ok(())
             }
             Call::DamageRecord { at, word } => {
-                self.store.damage_record(at, word);
+                damage(&mut self.store.record, at, word);
                 Ok(())
             }
             Call::DamageCell { at, byte } => {
-                self.store.cells.damage(at, byte);
+                damage(&mut self.store.cells.memory, at, byte);
                 Ok(())
             }
             Call::DamageScale { at, word } => {
-                self.store.scales.damage(at, word);
+                damage(&mut self.store.scales.memory, at, word);
                 Ok(())
             }
             Call::Compare => match &self.survivors {
@@ -165,9 +165,17 @@ impl History {
     }
 }
 
-// An output of as many places as a line says.
-fn output(alloc: Global, places: usize) -> Result<Vec<u32>, AllocError> {
-    vec![in alloc; UNWRITTEN; places.min(MOST_PLACES)]
+// What a call answers, and what it leaves in an output of as many places as a line says.
+fn tell_output<R: Print + AllocGlobal, F: Fn(&mut [u32]) -> u32>(
+    rt: &R,
+    places: usize,
+    call: F,
+) -> io::Result<()>
+    requires { F.IsAlwaysCallable call }
+{
+    let mut out = vec![in rt.alloc(); UNWRITTEN; places.min(MOST_PLACES)]?;
+    let reply = call(&mut out);
+    show::output(rt, reply, &out)
 }
 
 // The floats that words stand for.

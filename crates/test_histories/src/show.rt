@@ -2,6 +2,11 @@
 use crate::stores::Store;
 use std::io;
 
+// What a call answers, and its count.
+pub(crate) fn count(rt: &impl Print, reply: u32, count: u64) -> io::Result<()> {
+    println!(rt; "reply {reply} count {count}")
+}
+
 // What a call answers, and what it left in its output.
 pub(crate) fn output(rt: &impl Print, reply: u32, numbers: &[u32]) -> io::Result<()> {
     print!(rt; "reply {reply} numbers")?;

@@ -5,7 +5,7 @@ use std::alloc::{AllocError, Global};
 // Memory, of which the front is lent.
 #[derive(Drop)]
 pub(crate) struct Buffer<T> {
-    memory: Vec<T>,
+    pub memory: Vec<T>,
     lent: usize,
 }
 
@@ -32,12 +32,12 @@ impl<T: Copy> Buffer<T> {
         let n = self.lent.min(self.memory.len());
         &mut self.memory[..n]
     }
+}
 
-    // Changes a place, where it is there, lent or not.
-    pub(crate) fn damage(&mut self, at: usize, with: T) {
-        if let Some(x) = self.memory.get_mut(at) {
-            *x = with;
-        }
+// Changes a place, where it is there, lent or not.
+pub(crate) fn damage<T: Copy>(memory: &mut [T], at: usize, with: T) {
+    if let Some(x) = memory.get_mut(at) {
+        *x = with;
     }
 }
 
@@ -144,12 +144,5 @@ impl Store {
         let cells = self.cells.lent();
         let scales = self.scales.lent();
         host::kv_sums(&self.record, cells, scales, layer, head, weights, out)
-    }
-
-    // Changes a word of the record, where it is there.
-    pub(crate) fn damage_record(&mut self, at: usize, word: u32) {
-        if let Some(x) = self.record.get_mut(at) {
-            *x = word;
-        }
     }
 }
