@@ -68,7 +68,7 @@ known_if format (Ok F32) h e = rw (e, h)
 known_if format (Ok Bf16) h e = rw (e, h)
 known_if format (Ok Int8) h e = rw (e, h)
 known_if format (Ok Int4) h e = rw (e, h)
-known_if format (Err x) h e = rw (e, h)
+known_if format (Err x) h e = rw (e, h.0)
 
 -- any numbers are whole groups of one
 pub ones : (d : ℕ) → eqb (d % 1) 0 ≡ true

@@ -2,6 +2,7 @@
 -- The paper's Rows and Limits, under Shape and room.
 use Rattle.std.specs.Prelude.{◌≡◌, ℕ, ◌*◌, ◌/◌, ◌%◌, Bool, false, List, [], ◌∷◌, eqb, ltb, length, get_or, Result, Ok, Err}
 use Rattle.replies.specs.declared.Refusal.{Refusal}
+use Rattle.replies.specs.declared.Refusal.TheVariants.{Shape}
 use Rattle.shapes.specs.declared.Format.{Format}
 use Rattle.shapes.specs.declared.Format.TheVariants.{F32, Bf16, Int8, Int4}
 
@@ -31,7 +32,7 @@ layouts = f32_layout ∷ bf16_layout ∷ int8_layout ∷ int4_layout ∷ []
 unfoldable pub known : ℕ → Bool
 known format = ltb format (length layouts)
 
--- each format's number, and the format of a number, if it is known
+-- each format's number, and the format of a number; a number that the table has not is no shape's
 abbrev pub format_number : Format → ℕ
 format_number F32 = 0
 format_number Bf16 = 1
@@ -40,7 +41,7 @@ format_number Int4 = 3
 
 abbrev pub NumberOf : ℕ → Result Format Refusal → Type 0
 NumberOf n (Ok format) = n ≡ format_number format
-NumberOf n (Err refusal) = known n ≡ false
+NumberOf n (Err refusal) = (known n ≡ false) × (refusal ≡ Shape)
 
 -- of a format that is not known, nothing takes room
 abbrev pub no_layout : Layout

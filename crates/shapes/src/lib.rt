@@ -18,7 +18,7 @@ pub enum Format {
     Int4,
 }
 
-// A shape whose format is no other number is outside the limits.
+// A shape of any other number is outside the limits.
 impl TryFrom<u32> for Format {
     type Error = Refusal;
 

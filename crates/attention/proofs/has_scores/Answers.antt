@@ -21,4 +21,4 @@ unfolding has_scores_of scorings
 returns-in-Ok-Int4 c = rw (rw c.in-Ok-Int4.field-0-is at c.in-Ok-Int4.ensures)
 
 pub returns-in-Err : goal.returns-in-Err
-returns-in-Err c = sym (unscored _ c.in-Err.ensures)
+returns-in-Err c = sym (unscored _ c.in-Err.ensures.0)

@@ -25,5 +25,5 @@ returns-in-Ok-Int4 c =
 pub unreachable-requires : goal.unreachable-requires
 unreachable-requires c =
     let k = (limits_facts _ c.requires.in-limits).format_in in
-    let n = c.in-Err.ensures in
+    let n = c.in-Err.ensures.0 in
     cc

@@ -59,5 +59,5 @@ returns-in-Ok-Int4 c = done _ _ _ _ c.rows_fit.ensures c.if-not-rows_fit.false (
 pub returns-in-Err : goal.returns-in-Err
 returns-in-Err c =
     let k = (facts c.rows_fit.ensures c.if-not-rows_fit.false).known in
-    let n = c.in-Err.ensures in
+    let n = c.in-Err.ensures.0 in
     cc

@@ -84,5 +84,5 @@ pub returns-in-Err : goal.returns-in-Err
 returns-in-Err c =
     let a = c.args in
     let k = (fact a.format a.run.now a.cells.now a.scales.now c.rows_fit.ensures c.if-not-rows_fit.false).known in
-    let n = c.in-Err.ensures in
+    let n = c.in-Err.ensures.0 in
     cc

@@ -23,4 +23,4 @@ returns-in-Ok-Int4 c = rw (rw c.in-Ok-Int4.field-0-is at c.in-Ok-Int4.ensures)
 
 pub returns-in-Err : goal.returns-in-Err
 unfolding cell_bytes_of layouts
-returns-in-Err c = sym (ap (λ (f : Layout). f.bytes c.args.«head_size») (unlisted _ c.in-Err.ensures))
+returns-in-Err c = sym (ap (λ (f : Layout). f.bytes c.args.«head_size») (unlisted _ c.in-Err.ensures.0))

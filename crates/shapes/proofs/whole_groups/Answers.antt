@@ -22,4 +22,4 @@ returns-in-Ok-Int4 c = rw (rw c.in-Ok-Int4.field-0-is at c.in-Ok-Int4.ensures)
 
 pub returns-in-Err : goal.returns-in-Err
 unfolding whole_groups_of
-returns-in-Err c = rw (unlisted _ c.in-Err.ensures, ones)
+returns-in-Err c = rw (unlisted _ c.in-Err.ensures.0, ones)

@@ -10,7 +10,7 @@ use Rattle.attention.proofs.ScoringLaws.{unscored}
 use Rattle.attention.proofs.block.Block.of.Goals as goal
 
 pub returns-in_default : goal.returns-in_default
-returns-in_default c = rw (unscored _ c.in_default.ensures)
+returns-in_default c = rw (unscored _ c.in_default.ensures.0)
 
 pub overflow_cast-numbers : goal.overflow_cast-numbers
 overflow_cast-numbers c =
