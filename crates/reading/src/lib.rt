@@ -12,7 +12,9 @@ pub fn read_full<R: Read>(from: &mut R, buf: &mut [u8]) -> usize
     ensures bytes { Consumes (R.remaining from.old) (R.remaining from.new) (take result buf.new) }
 {
     let mut done = 0;
-    while let Ok(n @ 1..) = from.read(&mut buf[done..]) {
+    while done < buf.len()
+        && let Ok(n @ 1..) = from.read(&mut buf[done..])
+    {
         done += n;
     }
     done

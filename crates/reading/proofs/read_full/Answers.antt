@@ -15,14 +15,14 @@ take-put_mid a k n xs ys within fits =
     ap (take n) (drop_at (take a xs) (ys ++ after) a (length-take-le a xs within)) ∙ take-append-le n ys after fits in
     take-add a n new ∙ ap (λ l. l ++ take n (drop a new)) (take-put_mid_below _ _ _ _ _ (le_refl _) within) ∙ ap (λ l. take a xs ++ l) rest
 
-pub loop-n-preserved : goal.loop-n-preserved
-loop-n-preserved g c =
-    let before = c.loop-n.invariant in
+pub loop-done-preserved : goal.loop-done-preserved
+loop-done-preserved g c =
+    let before = c.loop-done.invariant in
     let read = c.in-Ok-1-to-max.ensures in
     record {
       within = search rules;
       bytes =
           subst (Consumes _ _)
-          (sym (take-put_mid c.loop-n.done (length c.loop-n.buf - c.loop-n.done) c.in-Ok-1-to-max.n c.loop-n.buf c.read.new.buf before.within read.bound.0))
+          (sym (take-put_mid c.loop-done.done (length c.loop-done.buf - c.loop-done.done) c.in-Ok-1-to-max.n c.loop-done.buf c.read.new.buf before.within read.bound.0))
           (Consumes-trans _ _ _ _ _ before.bytes read.bytes.0);
     }
