@@ -29,7 +29,7 @@ part_count : (b p n : ℕ) {m r : ℕ} (l : List ℕ) {x : List ℕ} → r ≡ b
     → x ≡ part (p * r) (n * r) l → length x ≡ n * b
 part_count b p n {r = r} l e q h o = rw (o, part_length (p * r) (n * r) l (part_in b p n e q h), e)
 
-rows_inside : (p n : ℕ) {format d m cells scales r v : ℕ} → RowsFit format d m cells scales → r ≡ cell_bytes_of format d → v ≡ scale_words_of format d → p + n ≤ m
+pub rows_inside : (p n : ℕ) {format d m cells scales r v : ℕ} → RowsFit format d m cells scales → r ≡ cell_bytes_of format d → v ≡ scale_words_of format d → p + n ≤ m
     → (p * r + n * r ≤ cells) × (p * v + n * v ≤ scales)
 rows_inside p n k e q h = (part_in _ p n e k.cell-bytes h, part_in _ p n q k.scale-words h)
 
@@ -67,7 +67,7 @@ rows_there : (p n m b : ℕ) {r size q k : ℕ} (l : List ℕ) → length l ≡ 
 rows_there p n m b l x e h o w = rw e (there_since p n m b l (x ∙ h) o w (cases_lt m p) (cases_lt (m - p) n))
 
 -- n rows of m are a block of their own
-some_rows : (format d m cells scales n : ℕ) {x y : ℕ} → ScoredRows format d m cells scales → n ≤ m → x ≡ n * cell_bytes_of format d → y ≡ n * scale_words_of format d
+pub some_rows : (format d m cells scales n : ℕ) {x y : ℕ} → ScoredRows format d m cells scales → n ≤ m → x ≡ n * cell_bytes_of format d → y ≡ n * scale_words_of format d
     → ScoredRows format d n x y
 some_rows format d m cells scales n h b e q =
     let k = fits_facts h.1 in

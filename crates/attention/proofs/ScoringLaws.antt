@@ -3,7 +3,7 @@
 use mathlib.Core.Path.{◌≡◌, refl}
 use mathlib.Core.Bool.{true, false}
 use mathlib.Core.List.{List}
-use Prim.Native.Nat.{ℕ, ◌+◌, ◌*◌, ◌≤◌, ◌<◌}
+use Prim.Native.Nat.{ℕ, zero, suc, ◌+◌, ◌*◌, ◌≤◌, ◌<◌}
 use native.Mathlib.Nat.{add-mul, mul_assoc}
 use native.Mathlib.Omega.{arith}
 use borrow.Author.Tests.{ltb-false}
@@ -40,7 +40,7 @@ pub row_number : (n : ℕ) (cells : List ℕ) (i d : ℕ) → d < n → f32_at c
 row_number n cells i d h = let b = room 4 h in rw (part-part, add-mul, mul_assoc)
 
 -- a number that the table has not
-no-scoring : (format : ℕ) → length scorings ≤ format → scoring_of format ≡ no_scoring
+pub no-scoring : (format : ℕ) → length scorings ≤ format → scoring_of format ≡ no_scoring
 no-scoring format h = get_or-eq_default scorings no_scoring h
 
 pub unscored : (format : ℕ) → known format ≡ false → has_scores_of format ≡ false
@@ -57,3 +57,15 @@ scored_int4 Int4 h a = refl
 
 pub scored_other : (format : Format) → has_scores_of (format_number format) ≡ true → (format ≡ F32 → ⊥) → (format ≡ Int4 → ⊥) → ⊥
 scored_other format h a b = b (scored_int4 format h a)
+
+-- and so is a number whose format has scores, whatever number it is
+pub scored_number : (format : ℕ) → has_scores_of format ≡ true → (format ≡ 0 → ⊥) → format ≡ 3
+unfolding has_scores_of scorings
+scored_number zero h a = absurd (a refl)
+scored_number (suc zero) h a = cc
+scored_number (suc (suc zero)) h a = cc
+scored_number (suc (suc (suc zero))) h a = refl
+scored_number (suc (suc (suc (suc f)))) h a = cc
+
+pub scored_no_other : (format : ℕ) → has_scores_of format ≡ true → (format ≡ 0 → ⊥) → (format ≡ 3 → ⊥) → ⊥
+scored_no_other format h a b = b (scored_number format h a)

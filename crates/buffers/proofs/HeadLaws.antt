@@ -65,7 +65,7 @@ module _ {s : Shape} {format h n c w : ℕ} {numbers cells scales : List ℕ} (k
       let f = k.fits in
       rw (k.scale-row, k.named) (over (scale_rows s n f.in-limits numbers f.numbers_size h f.head) f.scale_size)
 
-  row_there : {i : ℕ} → i < n → RowIn s h c w i (length numbers) (length cells) (length scales)
+  pub row_there : {i : ℕ} → i < n → RowIn s h c w i (length numbers) (length cells) (length scales)
   row_there v = rows_there k.named k.fits k.cell_row k.scale-row v
 
   row_fits : {d x y : ℕ} → d ≡ head_size_of s → x ≡ c → y ≡ w → RowFits format d x y
