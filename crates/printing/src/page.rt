@@ -3,8 +3,6 @@ ghost use Rattle.std.specs.Prelude.{◌++◌, ◌+◌, ◌*◌, ◌≤◌, lengt
 ghost use Rattle.printing.specs.Put.{Put};
 ghost use Rattle.printing.specs.Text.{decimal, spaced};
 
-use itoa::Buffer;
-
 #[derive(Drop)]
 pub(crate) struct Page<'a> {
     pub out: &'a mut [u8],
@@ -23,6 +21,20 @@ impl Page<'_> {
         self.at = end;
     }
 
+    // Puts a number's digits.
+    #[tactic(auto, using(crate::proofs::DigitLaws::decimal_one))]
+    fn put_number(&mut self, n: u64)
+        requires { self.old.at + 20 ≤ length self.old.out.now }
+        ensures { Put (decimal n) self.old self.new }
+    {
+        if n < 10 {
+            self.put(&[b'0' + n as u8]);
+            return;
+        }
+        self.put_number(n / 10);
+        self.put(&[b'0' + (n % 10) as u8]);
+    }
+
     // Puts a name and a number.
     pub(crate) fn put_named(&mut self, name: &[u8], n: u64)
         requires { self.old.at + length name.now + 20 ≤ length self.old.out.now }
@@ -30,7 +42,7 @@ impl Page<'_> {
         ensures upper_bound { self.new.at ≤ self.old.at + length name.now + 20 }
     {
         self.put(name);
-        self.put(Buffer::new().format(n).as_bytes());
+        self.put_number(n);
     }
 
     // Puts a space and a number for each length.
