@@ -15,8 +15,10 @@ fn main(rt: HostRuntime) -> io::Result<()> {
 
 // One name after the other.
 fn play_named(rt: &(impl Files + Print), names: &[u8]) -> io::Result<()> {
-    for line in names.split_inclusive(|b| *b == b'\n') {
-        play_file(rt, line.strip_suffix(b"\n").unwrap_or(line))?;
+    let mut rest = names;
+    while let Some((name, after)) = test_lines::first_line(rest) {
+        play_file(rt, name)?;
+        rest = after;
     }
     Ok(())
 }

@@ -37,3 +37,7 @@ line_past text i h = rw drop_of_length-le
 -- a line of n bytes from a place of the text ends in the text
 pub line_in : (text : List ℕ) (at : ℕ) {n : ℕ} → at < length text → n ≡ line_length_of (drop at text) → at + n ≤ length text
 line_in text at h e = omega (arith, line-within (drop at text), length-drop at text)
+
+-- a line of n bytes at the front of a text lies in the text
+pub line_first : (text : List ℕ) {n : ℕ} → n ≡ line_length_of text → n ≤ length text
+line_first text e = omega (arith, line-within text)

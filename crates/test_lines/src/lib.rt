@@ -1,7 +1,7 @@
 // Lines of words in hex, as the programs read them.
 #![tactic(auto)]
 
-ghost use Rattle.std.specs.Prelude.{◌≡◌, drop};
+ghost use Rattle.std.specs.Prelude.{◌≡◌, ◌+◌, ◌<◌, length, take, drop, MatchOption};
 ghost use Rattle.test_lines.specs.Line.{digit_of, with_digit_of, hex_at_of, line_length_of};
 
 // What is no word: one more than the largest.
@@ -57,4 +57,20 @@ pub fn line_length(text: &[u8], at: usize) -> usize
         return 0;
     };
     rest.iter().position(|b| *b == b'\n').unwrap_or(rest.len())
+}
+
+// The first line of a text, without its line feed, and what comes after it; none of an empty text.
+#[tactic(auto, using(crate::proofs::LineLaws::line_first, std::proofs::lemmas::Grind::common_steps))]
+pub fn first_line(text: &[u8]) -> Option<(&[u8], &[u8])>
+    ensures { let n = line_length_of text.now in MatchOption result
+        (length text.now ≡ 0)
+        (λ parts. (0 < length text.now)
+        × (parts.0.now ≡ take n text.now)
+        × (parts.1.now ≡ drop (n + 1) text.now)) }
+{
+    if text.is_empty() {
+        return None;
+    }
+    let n = line_length(text, 0);
+    Some((&text[..n], text.get(n + 1..).unwrap_or(&[])))
 }
