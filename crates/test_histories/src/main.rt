@@ -21,9 +21,11 @@ fn main(rt: HostRuntime) -> io::Result<()> {
 // One call after the other.
 fn play(rt: &(impl Print + AllocGlobal), text: &[u8]) -> io::Result<()> {
     let mut history = History::new(rt.alloc())?;
-    for line in text.split_inclusive(|b| *b == b'\n') {
-        let words = words_of(rt.alloc(), line.strip_suffix(b"\n").unwrap_or(line))?;
+    let mut rest = text;
+    while let Some((line, after)) = test_lines::first_line(rest) {
+        let words = words_of(rt.alloc(), line)?;
         history.play(rt, Call::from(words.as_slice()))?;
+        rest = after;
     }
     Ok(())
 }
