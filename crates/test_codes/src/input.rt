@@ -1,25 +1,23 @@
 // Runs of words in hex, as lines of text.
-use std::alloc::{AllocError, Global};
+use arrayvec::ArrayVec;
 
 // The most words of a run.
 const MOST: usize = 64;
 
 // The words of a line: a space between two, and a line feed after the last. None for a line that is no run.
-pub(crate) fn run_of(alloc: Global, line: &[u8]) -> Result<Option<Vec<u32>>, AllocError> {
-    let Some(line) = line.strip_suffix(b"\n") else {
-        return Ok(None);
-    };
-    let mut run = Vec::new(alloc);
+pub(crate) fn run_of(line: &[u8]) -> Option<ArrayVec<u32, MOST>> {
+    let line = line.strip_suffix(b"\n")?;
+    let mut run = ArrayVec::new();
     if line.is_empty() {
-        return Ok(Some(run));
+        return Some(run);
     }
     for digits in line.split(|b| *b == b' ') {
         match word_of(digits) {
-            Some(word) if run.len() < MOST => run.push(word)?,
-            _ => return Ok(None),
+            Some(word) if !run.is_full() => run.push(word),
+            _ => return None,
         }
     }
-    Ok(Some(run))
+    Some(run)
 }
 
 // The word of 8 digits.

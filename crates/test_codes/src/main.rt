@@ -14,10 +14,10 @@ fn main(rt: HostRuntime) -> io::Result<()> {
 }
 
 // One run after the other, up to the end or to the first line that is no run.
-fn play(rt: &(impl Print + AllocGlobal), text: &[u8]) -> io::Result<()> {
+fn play(rt: &impl Print, text: &[u8]) -> io::Result<()> {
     let mut rest = text;
     while let Some(line) = rest.split_inclusive(|b| *b == b'\n').next() {
-        let Some(run) = input::run_of(rt.alloc(), line)? else {
+        let Some(run) = input::run_of(line) else {
             let at = text.len() - rest.len();
             return println!(rt; "bad at {at}");
         };

@@ -1,8 +1,11 @@
 // What a line says.
-use std::alloc::{AllocError, Global};
+use arrayvec::ArrayVec;
 
 // The most numbers that a line gives to a call.
-const MOST_GIVEN: usize = 256;
+pub(crate) const MOST_GIVEN: usize = 256;
+
+// The most words of a line that a call reads: the numbers that it gives, and at most five before them.
+pub(crate) const MOST_WORDS: usize = 261;
 
 // The words that a store's shape has on the boundary.
 #[derive(Clone, Copy)]
@@ -75,12 +78,16 @@ pub(crate) enum Call<'a> {
     Compare,
 }
 
-// A line's words: 8 digits each, a byte between two; 0 for what is no word.
-pub(crate) fn words_of(alloc: Global, line: &[u8]) -> Result<Vec<u32>, AllocError> {
-    line.chunks(9)
-        .filter(|place| 8 <= place.len())
-        .map(|place| u32::try_from(test_lines::hex_at(place, 0)).unwrap_or(0))
-        .collect(alloc)
+// Puts a line's words, as many as a call may read, in place of those that were there: 8 digits each, a byte between
+// two; 0 for what is no word.
+pub(crate) fn read_words(line: &[u8], words: &mut ArrayVec<u32, MOST_WORDS>) {
+    words.clear();
+    for place in line.chunks(9).filter(|place| 8 <= place.len()) {
+        if words.is_full() {
+            break;
+        }
+        words.push(u32::try_from(test_lines::hex_at(place, 0)).unwrap_or(0));
+    }
 }
 
 // Every word past a line's end is 0, and every kind that no other call has is an advance.

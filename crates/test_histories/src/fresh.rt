@@ -1,9 +1,8 @@
 // The store against a fresh one.
 use crate::show;
 use crate::stores::Store;
-use std::alloc::{AllocError, Global};
-use std::io;
-use std::iter::repeat;
+use arrayvec::ArrayVec;
+use std::{array, io};
 
 // The most layers that are followed.
 const MOST_LAYERS: usize = 8;
@@ -14,25 +13,24 @@ const MOST_KEPT: usize = 512;
 // A layer's keys and values of accepted calls that no later one removed.
 #[derive(Drop)]
 struct Layer {
-    keys: Vec<u32>,
-    values: Vec<u32>,
+    keys: ArrayVec<u32, MOST_KEPT>,
+    values: ArrayVec<u32, MOST_KEPT>,
 }
 
 #[derive(Drop)]
 pub(crate) struct Survivors {
-    layers: Vec<Layer>,
+    layers: [Layer; MOST_LAYERS],
 }
 
 impl Survivors {
     // Those of an empty store.
-    pub(crate) fn new(alloc: Global) -> Result<Self, AllocError> {
-        let layers = (0..MOST_LAYERS).map(|_| Layer {
-            keys: Vec::new(alloc),
-            values: Vec::new(alloc),
-        });
-        Ok(Survivors {
-            layers: layers.collect(alloc)?,
-        })
+    pub(crate) fn new() -> Self {
+        Survivors {
+            layers: array::from_fn(|_| Layer {
+                keys: ArrayVec::new(),
+                values: ArrayVec::new(),
+            }),
+        }
     }
 
     // Puts `count` keys and as many values after those of a layer, 0 for each that is not given; false where they do not fit.
@@ -42,16 +40,16 @@ impl Survivors {
         count: usize,
         keys: &[u32],
         values: &[u32],
-    ) -> Result<bool, AllocError> {
+    ) -> bool {
         let Some(layer) = self.layers.get_mut(layer as usize) else {
-            return Ok(false);
+            return false;
         };
         if MOST_KEPT < layer.keys.len().saturating_add(count) {
-            return Ok(false);
+            return false;
         }
-        extend(&mut layer.keys, keys, count)?;
-        extend(&mut layer.values, values, count)?;
-        Ok(true)
+        extend(&mut layer.keys, keys, count);
+        extend(&mut layer.values, values, count);
+        true
     }
 
     // Leaves at most `kept` numbers a side in a layer.
@@ -63,24 +61,23 @@ impl Survivors {
     }
 }
 
-fn extend(side: &mut Vec<u32>, numbers: &[u32], count: usize) -> Result<(), AllocError> {
-    side.extend(numbers.iter().copied().chain(repeat(0)).take(count))
+// Puts `count` numbers after those of a side, which has room for them: those that are given, and then 0.
+fn extend(side: &mut ArrayVec<u32, MOST_KEPT>, numbers: &[u32], count: usize) {
+    for k in 0..count {
+        if !side.is_full() {
+            side.push(numbers.get(k).copied().unwrap_or(0));
+        }
+    }
 }
 
 // The store against a fresh one of its shape, in as much other memory, that got the survivors of each layer in one call.
-pub(crate) fn compare<R: Print + AllocGlobal>(
-    rt: &R,
-    store: &Store,
-    survivors: &Survivors,
-) -> io::Result<()> {
-    let cells = store.cells.lent();
-    let scales = store.scales.lent();
-    let mut fresh = Store::new(rt.alloc(), 0x5A, cells.len(), scales.len())?;
-    fresh.cells.lend(cells.len());
-    fresh.scales.lend(scales.len());
+pub(crate) fn compare(rt: &impl Print, store: &Store, survivors: &Survivors) -> io::Result<()> {
+    let fresh = &mut Store::new(0x5A);
+    fresh.cells.lend(store.cells.lent().len());
+    fresh.scales.lend(store.scales.lent().len());
     rt.write_all(b"fresh replies")?;
-    fill(rt, &mut fresh, store, survivors)?;
-    rt.write_all(difference(store, &fresh))
+    fill(rt, fresh, store, survivors)?;
+    rt.write_all(difference(store, fresh))
 }
 
 // Opens the fresh store, appends to it, and tells each reply.

@@ -1,10 +1,10 @@
 // A store with the calls that were made of it.
-use crate::calls::Call;
+use crate::calls::{Call, MOST_GIVEN};
 use crate::fresh::{self, Survivors};
 use crate::show;
 use crate::stores::{Store, damage};
+use arrayvec::ArrayVec;
 use numbers::words::word_to_f32;
-use std::alloc::{AllocError, Global};
 use std::io;
 
 // What an output holds before a call.
@@ -21,20 +21,20 @@ pub(crate) struct History {
 }
 
 impl History {
-    pub(crate) fn new(alloc: Global) -> Result<Self, AllocError> {
-        Ok(History {
-            store: Store::new(alloc, 0xA5, 2048, 256)?,
-            survivors: Some(Survivors::new(alloc)?),
-        })
+    pub(crate) fn new() -> Self {
+        History {
+            store: Store::new(0xA5),
+            survivors: Some(Survivors::new()),
+        }
     }
 
     // Does what a line says, and tells what a call answers and leaves.
-    pub(crate) fn play<R: Print + AllocGlobal>(&mut self, rt: &R, call: Call) -> io::Result<()> {
+    pub(crate) fn play(&mut self, rt: &impl Print, call: Call) -> io::Result<()> {
         match call {
             Call::Open(shape) => {
                 let reply = self.store.open(shape);
                 if reply == 0 {
-                    self.survivors = Some(Survivors::new(rt.alloc())?);
+                    self.survivors = Some(Survivors::new());
                 }
                 self.tell(rt, reply)
             }
@@ -46,7 +46,7 @@ impl History {
                 let (keys, values) = numbers.split_at(count.min(numbers.len()));
                 let reply = self.store.append(layer, keys, values);
                 if reply == 0 {
-                    self.keep(layer, count, keys, values)?;
+                    self.keep(layer, count, keys, values);
                 }
                 self.tell(rt, reply)
             }
@@ -89,7 +89,7 @@ impl History {
                 places,
                 query,
             } => {
-                let query = floats(rt.alloc(), query)?;
+                let query = floats(query);
                 let scale = word_to_f32(scale);
                 tell_output(rt, places, |out| {
                     self.store.scores(layer, head, &query, scale, out)
@@ -101,7 +101,7 @@ impl History {
                 places,
                 weights,
             } => {
-                let weights = floats(rt.alloc(), weights)?;
+                let weights = floats(weights);
                 tell_output(rt, places, |out| {
                     self.store.sums(layer, head, &weights, out)
                 })
@@ -137,19 +137,12 @@ impl History {
     }
 
     // The keys and values of an accepted append survive.
-    fn keep(
-        &mut self,
-        layer: u32,
-        count: usize,
-        keys: &[u32],
-        values: &[u32],
-    ) -> Result<(), AllocError> {
+    fn keep(&mut self, layer: u32, count: usize, keys: &[u32], values: &[u32]) {
         if let Some(survivors) = &mut self.survivors
-            && !survivors.append(layer, count, keys, values)?
+            && !survivors.append(layer, count, keys, values)
         {
             self.survivors = None;
         }
-        Ok(())
     }
 
     // Of a truncated layer the first positions survive.
@@ -166,19 +159,23 @@ impl History {
 }
 
 // What a call answers, and what it leaves in an output of as many places as a line says.
-fn tell_output<R: Print + AllocGlobal, F: Fn(&mut [u32]) -> u32>(
-    rt: &R,
-    places: usize,
-    call: F,
-) -> io::Result<()>
+fn tell_output<F: Fn(&mut [u32]) -> u32>(rt: &impl Print, places: usize, call: F) -> io::Result<()>
     requires { F.IsAlwaysCallable call }
 {
-    let mut out = vec![in rt.alloc(); UNWRITTEN; places.min(MOST_PLACES)]?;
-    let reply = call(&mut out);
-    show::output(rt, reply, &out)
+    let mut space = [UNWRITTEN; MOST_PLACES];
+    let out = &mut space[..places.min(MOST_PLACES)];
+    let reply = call(out);
+    show::output(rt, reply, out)
 }
 
-// The floats that words stand for.
-fn floats(alloc: Global, words: &[u32]) -> Result<Vec<f32>, AllocError> {
-    words.iter().map(|word| word_to_f32(*word)).collect(alloc)
+// The floats that words stand for, of which a line gives no more than fit.
+fn floats(words: &[u32]) -> ArrayVec<f32, MOST_GIVEN> {
+    let mut floats = ArrayVec::new();
+    for word in words {
+        if floats.is_full() {
+            break;
+        }
+        floats.push(word_to_f32(*word));
+    }
+    floats
 }

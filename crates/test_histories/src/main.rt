@@ -8,7 +8,8 @@ mod history;
 mod show;
 mod stores;
 
-use calls::{Call, words_of};
+use arrayvec::ArrayVec;
+use calls::{Call, read_words};
 use history::History;
 use std::io;
 
@@ -19,11 +20,12 @@ fn main(rt: HostRuntime) -> io::Result<()> {
 }
 
 // One call after the other.
-fn play(rt: &(impl Print + AllocGlobal), text: &[u8]) -> io::Result<()> {
-    let mut history = History::new(rt.alloc())?;
+fn play(rt: &impl Print, text: &[u8]) -> io::Result<()> {
+    let mut history = History::new();
+    let mut words = ArrayVec::new();
     let mut rest = text;
     while let Some((line, after)) = test_lines::first_line(rest) {
-        let words = words_of(rt.alloc(), line)?;
+        read_words(line, &mut words);
         history.play(rt, Call::from(words.as_slice()))?;
         rest = after;
     }

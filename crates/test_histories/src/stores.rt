@@ -1,21 +1,20 @@
 // A store on the boundary: its record, and the memory that it is lent.
 use crate::calls::Shape;
-use std::alloc::{AllocError, Global};
 
 // Memory, of which the front is lent.
 #[derive(Drop)]
-pub(crate) struct Buffer<T> {
-    pub memory: Vec<T>,
+pub(crate) struct Buffer<T, const N: usize> {
+    pub memory: [T; N],
     lent: usize,
 }
 
-impl<T: Copy> Buffer<T> {
+impl<T: Copy, const N: usize> Buffer<T, N> {
     // Full of what was there before, and not lent.
-    pub(crate) fn new(alloc: Global, used: T, len: usize) -> Result<Self, AllocError> {
-        Ok(Buffer {
-            memory: vec![in alloc; used; len]?,
+    pub(crate) fn new(used: T) -> Self {
+        Buffer {
+            memory: [used; N],
             lent: 0,
-        })
+        }
     }
 
     // Lends the first `len` places, or all where there are no more.
@@ -43,24 +42,19 @@ pub(crate) fn damage<T: Copy>(memory: &mut [T], at: usize, with: T) {
 
 #[derive(Drop)]
 pub(crate) struct Store {
+    pub cells: Buffer<u8, 2048>,
+    pub scales: Buffer<u32, 256>,
     pub record: [u32; 134],
-    pub cells: Buffer<u8>,
-    pub scales: Buffer<u32>,
 }
 
 impl Store {
     // A record of zeros over memory that is full of `used` bytes.
-    pub(crate) fn new(
-        alloc: Global,
-        used: u8,
-        cells: usize,
-        scales: usize,
-    ) -> Result<Self, AllocError> {
-        Ok(Store {
+    pub(crate) fn new(used: u8) -> Self {
+        Store {
+            cells: Buffer::new(used),
+            scales: Buffer::new(u32::from_ne_bytes([used; 4])),
             record: [0; 134],
-            cells: Buffer::new(alloc, used, cells)?,
-            scales: Buffer::new(alloc, u32::from_ne_bytes([used; 4]), scales)?,
-        })
+        }
     }
 
     pub(crate) fn shape(&self) -> Shape {
