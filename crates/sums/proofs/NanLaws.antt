@@ -78,10 +78,11 @@ module _ (n half : ℕ) (e : half ≡ 8 * n) (i d : ℕ) (b : i < 4) (w : d < n)
       let r : i % 2 ≤ 1 = omega arith in
       (omega (arith, mul-le-mul_right half q), omega (arith, mul-le-mul_right n r), omega (arith, room n b))
 
-  pub half_number : (cells : List ℕ) → f32_at (part (i / 2 * half) half cells) (i % 2 * n + d) ≡ f32_at cells (i * n + d)
-  half_number cells =
-      let j : i ≡ 2 * (i / 2) + i % 2 = omega arith in
-      let k : i * n ≡ (2 * (i / 2) + i % 2) * n = ap (λ (m : ℕ). m * n) j in
+  pub half_number : (q : ℕ) {r : List ℕ} (cells : List ℕ) → r ≡ part (q * half) half cells → q ≡ i / 2
+      → f32_at r (i % 2 * n + d) ≡ f32_at cells (i * n + d)
+  half_number q cells o same =
+      let m : i ≡ 2 * (i / 2) + i % 2 = omega arith in
+      let k : i * n ≡ (2 * (i / 2) + i % 2) * n = ap (λ (m : ℕ). m * n) m in
       let h = half_fits.1 in
       let s : i / 2 * half + (i % 2 * n + d) * 4 ≡ (i * n + d) * 4 = rw e (omega arith) in
-      rw (part-part, s)
+      rw (o, same, part-part, s)

@@ -1,8 +1,8 @@
 // The terms of four F32 rows at once, where they have no NaN.
-ghost use Rattle.std.specs.Prelude.{◌≡◌, true, false, cond, ◌+◌, ◌*◌, ◌<◌, ◌≤◌, length, get_or};
+ghost use Rattle.std.specs.Prelude.{◌≡◌, true, false, cond, ◌+◌, ◌*◌, ◌/◌, ◌<◌, ◌≤◌, length, get_or};
 ghost use Rattle.std.specs.Float.{nan, binary32};
 ghost use Rattle.std.specs.Float.Ieee.{add, nan_bits};
-ghost use Rattle.lists.specs.Chunks.{turns, some};
+ghost use Rattle.lists.specs.Chunks.{turns, some, part};
 ghost use Rattle.shapes.specs.Format.{format_number};
 ghost use Rattle.shapes.specs.declared.Format.TheVariants.{F32};
 ghost use Rattle.shapes.specs.Buffers.{buffers};
@@ -112,16 +112,25 @@ fn with_terms(tally: Tally, weights: &[f32], cells: &[u8], next: &[u8], n: usize
     let half = cells.len() / 2;
     let mut now = tally;
     for i in 0..4 {
-        let a = i / 2 * half;
         now = with_term(
             now,
             weights[i],
-            &cells[a..a + half],
-            &next[a..a + half],
+            half_of(cells, half, i),
+            half_of(next, half, i),
             i % 2 * n + d,
         );
     }
     now
+}
+
+// The half in which row `i` of four rows lies, where two rows have `half` bytes.
+fn half_of(rows: &[u8], half: usize, i: usize) -> &[u8]
+    requires { (i < 4) × (2 * half ≤ length rows.now) }
+    ensures part { result.now ≡ part (i / 2 * half) half rows.now }
+    ensures len { length result.now ≡ half }
+{
+    let a = i / 2 * half;
+    &rows[a..a + half]
 }
 
 // One row's term more, and one number more of a row behind it. Interleaved, so that the back end keeps one induction variable instead of eight.

@@ -1,11 +1,9 @@
 -- The terms of the rows passed are added, and the NaNs of the next ones counted.
 use mathlib.Core.Path.{◌≡◌, refl}
-use Prim.Native.Nat.{ℕ, ◌+◌, ◌-◌, ◌*◌, ◌/◌, ◌<◌}
-use native.Mathlib.Nat.{add-sub_cancel_left}
+use Prim.Native.Nat.{ℕ, ◌+◌, ◌*◌, ◌/◌, ◌<◌}
 use native.Mathlib.Omega.{arith}
 use lib.ListN.{length}
 use Rattle.lists.specs.Chunks.{turns}
-use Rattle.lists.proofs.Part.{part_length}
 use Rattle.lists.proofs.Some.{some_none, sum_most}
 use Rattle.lists.proofs.Turns.{turns_next, turns_turn}
 use Rattle.sums.proofs.NanLaws.{nan_count, one_at_most, half_number, half_fits}
@@ -14,12 +12,6 @@ use Rattle.sums.proofs.fours.with_terms.Goals as goal
 pub loop-i-init : goal.loop-i-init
 unfolding turns
 loop-i-init c = (refl, omega arith)
-
-pub overflow_mul-a : goal.overflow_mul-a
-overflow_mul-a c =
-    let args = c.args in
-    let h = half_fits args.n (length args.cells.now / 2) (omega arith) c.loop-i.i args.d c.loop-i-test.true (omega arith) in
-    omega (arith, h.0)
 
 pub with_term-now-requires : goal.with_term-now-requires
 with_term-now-requires c =
@@ -30,14 +22,11 @@ with_term-now-requires c =
     let e : half ≡ 8 * n = omega arith in
     let w : args.d < n = omega arith in
     let h = half_fits n half e i args.d c.loop-i-test.true w in
-    let k : i / 2 * half + half - i / 2 * half ≡ half = add-sub_cancel_left (i / 2 * half) half in
-    let cells = part_length (i / 2 * half) half args.cells.now (omega (arith, h.0)) in
-    let next = part_length (i / 2 * half) half args.next.now (omega (arith, h.0)) in
-    let few = sum_most i 1 (λ i. nan_count args.next.now (i * n + args.d)) (λ i. one_at_most args.next.now (i * n + args.d)) in
-    rw k (
-      omega (arith, h.1, cells),
-      rw (half_number n half e i args.d c.loop-i-test.true w args.cells.now) (some_none _ (i * n + args.d) _ c.requires.plain h.2),
-      omega (arith, h.1, next),
+    let number = half_number n half e i args.d c.loop-i-test.true w _ args.cells.now c.half_of.ensures.part (omega arith) in
+    let few = sum_most i 1 (λ i. nan_count args.next.now (i * n + args.d)) (λ i. one_at_most args.next.now (i * n + args.d)) in (
+      omega (arith, h.1, c.half_of.ensures.len),
+      rw number (some_none _ (i * n + args.d) _ c.requires.plain h.2),
+      omega (arith, h.1, c.half_of-in-loop-i.ensures.len),
       omega (arith, few),
     )
 
@@ -49,10 +38,10 @@ loop-i-preserved c =
     let half = length args.cells.now / 2 in
     let e : half ≡ 8 * n = omega arith in
     let w : args.d < n = omega arith in
-    let k : i / 2 * half + half - i / 2 * half ≡ half = add-sub_cancel_left (i / 2 * half) half in
-    let number = half_number n half e i args.d c.loop-i-test.true w in
+    let cells = half_number n half e i args.d c.loop-i-test.true w _ args.cells.now c.half_of.ensures.part (omega arith) in
+    let next = half_number n half e i args.d c.loop-i-test.true w _ args.next.now c.half_of-in-loop-i.ensures.part (omega arith) in
     let count : ℕ → ℕ → ℕ = λ i nans. nans + nan_count args.next.now (i * n + args.d) in
-    let counted = rw (k, number args.next.now) at c.with_term-now.ensures.1 in (
-      turns_next _ _ _ c.loop-i.invariant.0 (rw (k, number args.cells.now) at c.with_term-now.ensures.0),
+    let counted = rw next at c.with_term-now.ensures.1 in (
+      turns_next _ _ _ c.loop-i.invariant.0 (rw cells at c.with_term-now.ensures.0),
       omega (arith, turns_turn i count 0, counted),
     )
