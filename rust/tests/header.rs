@@ -408,6 +408,7 @@ fn replies_have_the_same_numbers() {
     wanted[0] += " = 1";
     assert_eq!(names, wanted);
     assert!(source.contains("Ok(_) => 0,"));
+    assert!(source.contains("        refusal as u32\n"));
     assert_eq!(constant("KV_DONE"), 0);
     for (place, refusal) in REFUSALS.iter().enumerate() {
         let in_c = format!("KV_REPLY_{refusal:?}").to_uppercase();

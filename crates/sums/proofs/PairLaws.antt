@@ -21,7 +21,7 @@ use Rattle.attention.specs.Order.{scorings, row_term, added}
 use Rattle.attention.specs.Block.{block_term}
 use Rattle.attention.specs.Fits.{ScoredRows, IsF32}
 use Rattle.attention.proofs.ScoringLaws.{f32_bytes}
-use Rattle.sums.proofs.NanLaws.{nan_count, Plain, none_counted}
+use Rattle.sums.proofs.NanLaws.{nan_count, Plain, one_at_most, none_counted}
 
 -- the terms of k rows from row p on, which are lent as a part, after those of the rows before
 module _ (weights : List Float) (cells scales : List ℕ) (d : ℕ) (h : ScoredRows 0 d (length weights) (length cells) (length scales)) where
@@ -53,6 +53,9 @@ some_join n p h g = let e : 2 * n ≡ n + n = omega arith in rw (e, turns-add n 
 module _ (n : ℕ) (n0 n2 : List ℕ) where
   abbrev pub pair_nans : ℕ → ℕ
   pair_nans d = nan_count n0 d + nan_count n0 (n + d) + nan_count n2 d + nan_count n2 (n + d)
+
+  pub pair_at_most : (d : ℕ) → pair_nans d ≤ 4
+  pair_at_most d = omega (arith, one_at_most n0 d, one_at_most n0 (n + d), one_at_most n2 d, one_at_most n2 (n + d))
 
   pairs_plain : turns n (λ d nans. nans + pair_nans d) 0 ≡ 0 → Plain (2 * n) n0 × Plain (2 * n) n2
   pairs_plain e = (

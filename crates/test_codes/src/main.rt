@@ -21,7 +21,7 @@ fn play(rt: &impl Print, text: &[u8]) -> io::Result<()> {
             let at = text.len() - rest.len();
             return println!(rt; "bad at {at}");
         };
-        show::run(rt, &run)?;
+        show::run(rt, run.words())?;
         rest = &rest[line.len()..];
     }
     Ok(())

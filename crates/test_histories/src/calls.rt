@@ -1,11 +1,43 @@
 // What a line says.
-use arrayvec::ArrayVec;
+ghost use Rattle.std.specs.Prelude.{◌≤◌, length};
 
 // The most numbers that a line gives to a call.
 pub(crate) const MOST_GIVEN: usize = 256;
 
-// The most words of a line that a call reads: the numbers that it gives, and at most five before them.
-pub(crate) const MOST_WORDS: usize = 261;
+// A line as words: 8 digits each, a byte between two; 0 for what is no word, and past the end.
+#[derive(Clone, Copy)]
+pub(crate) struct Words<'a> {
+    line: &'a [u8],
+}
+
+impl<'a> Words<'a> {
+    pub(crate) fn of(line: &'a [u8]) -> Self {
+        Words { line }
+    }
+
+    fn get(self, k: usize) -> u32 {
+        u32::try_from(test_lines::hex_at(self.line, k.saturating_mul(9))).unwrap_or(0)
+    }
+
+    // Those from word `k` on.
+    fn after(self, k: usize) -> Self {
+        Words {
+            line: self.line.get(k.saturating_mul(9)..).unwrap_or(&[]),
+        }
+    }
+
+    // Puts what they stand for to the front of a space, as many as there is room for, and answers how many these are.
+    pub(crate) fn read<T: Copy, F: Fn(u32) -> T>(self, space: &mut [T], stands_for: F) -> usize
+        requires { F.IsAlwaysCallable stands_for }
+        ensures { result ≤ length space.new }
+    {
+        let n = (self.line.len().saturating_add(1) / 9).min(space.len());
+        for (k, x) in space[..n].iter_mut().enumerate() {
+            *x = stands_for(self.get(k));
+        }
+        n
+    }
+}
 
 // The words that a store's shape has on the boundary.
 #[derive(Clone, Copy)]
@@ -25,7 +57,7 @@ pub(crate) enum Call<'a> {
     Append {
         layer: u32,
         count: usize,
-        numbers: &'a [u32],
+        numbers: Words<'a>,
     },
     Truncate {
         layer: u32,
@@ -66,34 +98,22 @@ pub(crate) enum Call<'a> {
         head: u32,
         scale: u32,
         places: usize,
-        query: &'a [u32],
+        query: Words<'a>,
     },
     Sums {
         layer: u32,
         head: u32,
         places: usize,
-        weights: &'a [u32],
+        weights: Words<'a>,
     },
     // Holds the store to a fresh one.
     Compare,
 }
 
-// Puts a line's words, as many as a call may read, in place of those that were there: 8 digits each, a byte between
-// two; 0 for what is no word.
-pub(crate) fn read_words(line: &[u8], words: &mut ArrayVec<u32, MOST_WORDS>) {
-    words.clear();
-    for place in line.chunks(9).filter(|place| 8 <= place.len()) {
-        if words.is_full() {
-            break;
-        }
-        words.push(u32::try_from(test_lines::hex_at(place, 0)).unwrap_or(0));
-    }
-}
-
 // Every word past a line's end is 0, and every kind that no other call has is an advance.
-impl<'a> From<&'a [u32]> for Call<'a> {
-    fn from(words: &'a [u32]) -> Self {
-        let word = |k: usize| words.get(k).copied().unwrap_or(0);
+impl<'a> From<Words<'a>> for Call<'a> {
+    fn from(words: Words<'a>) -> Self {
+        let word = |k: usize| words.get(k);
         let place = |k: usize| word(k) as usize;
         match word(0) {
             1 => Call::Open(Shape {
@@ -106,7 +126,7 @@ impl<'a> From<&'a [u32]> for Call<'a> {
             2 => Call::Append {
                 layer: word(1),
                 count: place(2),
-                numbers: numbers_from(words, 3),
+                numbers: words.after(3),
             },
             3 => Call::Truncate {
                 layer: word(1),
@@ -142,22 +162,16 @@ impl<'a> From<&'a [u32]> for Call<'a> {
                 head: word(2),
                 scale: word(3),
                 places: place(4),
-                query: numbers_from(words, 5),
+                query: words.after(5),
             },
             13 => Call::Sums {
                 layer: word(1),
                 head: word(2),
                 places: place(3),
-                weights: numbers_from(words, 4),
+                weights: words.after(4),
             },
             14 => Call::Compare,
             _ => Call::Advance { count: word(1) },
         }
     }
-}
-
-// The numbers from word `k` on.
-fn numbers_from(words: &[u32], k: usize) -> &[u32] {
-    let rest = words.get(k..).unwrap_or(&[]);
-    rest.get(..MOST_GIVEN).unwrap_or(rest)
 }

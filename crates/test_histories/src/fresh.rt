@@ -1,8 +1,7 @@
 // The store against a fresh one.
 use crate::show;
 use crate::stores::Store;
-use arrayvec::ArrayVec;
-use std::{array, io};
+use std::io;
 
 // The most layers that are followed.
 const MOST_LAYERS: usize = 8;
@@ -10,14 +9,25 @@ const MOST_LAYERS: usize = 8;
 // The most numbers of a side in one.
 const MOST_KEPT: usize = 512;
 
-// A layer's keys and values of accepted calls that no later one removed.
-#[derive(Drop)]
+// A layer's keys and values of accepted calls that no later one removed: the first of each side.
+#[derive(Clone, Copy)]
 struct Layer {
-    keys: ArrayVec<u32, MOST_KEPT>,
-    values: ArrayVec<u32, MOST_KEPT>,
+    keys: [u32; MOST_KEPT],
+    values: [u32; MOST_KEPT],
+    count: usize,
 }
 
-#[derive(Drop)]
+impl Layer {
+    fn keys(&self) -> &[u32] {
+        &self.keys[..self.count.min(MOST_KEPT)]
+    }
+
+    fn values(&self) -> &[u32] {
+        &self.values[..self.count.min(MOST_KEPT)]
+    }
+}
+
+#[derive(Clone, Copy)]
 pub(crate) struct Survivors {
     layers: [Layer; MOST_LAYERS],
 }
@@ -26,10 +36,17 @@ impl Survivors {
     // Those of an empty store.
     pub(crate) fn new() -> Self {
         Survivors {
-            layers: array::from_fn(|_| Layer {
-                keys: ArrayVec::new(),
-                values: ArrayVec::new(),
-            }),
+            layers: [Layer {
+                keys: [0; MOST_KEPT],
+                values: [0; MOST_KEPT],
+                count: 0,
+            }; MOST_LAYERS],
+        }
+    }
+
+    pub(crate) fn clear(&mut self) {
+        for layer in &mut self.layers {
+            layer.count = 0;
         }
     }
 
@@ -44,40 +61,39 @@ impl Survivors {
         let Some(layer) = self.layers.get_mut(layer as usize) else {
             return false;
         };
-        if MOST_KEPT < layer.keys.len().saturating_add(count) {
+        let from = layer.count;
+        let to = from.saturating_add(count);
+        if MOST_KEPT < to {
             return false;
         }
-        extend(&mut layer.keys, keys, count);
-        extend(&mut layer.values, values, count);
+        put(keys, &mut layer.keys[from..to]);
+        put(values, &mut layer.values[from..to]);
+        layer.count = to;
         true
     }
 
     // Leaves at most `kept` numbers a side in a layer.
     pub(crate) fn truncate(&mut self, layer: u32, kept: usize) {
         if let Some(layer) = self.layers.get_mut(layer as usize) {
-            layer.keys.truncate(kept);
-            layer.values.truncate(kept);
+            layer.count = layer.count.min(kept);
         }
     }
 }
 
-// Puts `count` numbers after those of a side, which has room for them: those that are given, and then 0.
-fn extend(side: &mut ArrayVec<u32, MOST_KEPT>, numbers: &[u32], count: usize) {
-    for k in 0..count {
-        if !side.is_full() {
-            side.push(numbers.get(k).copied().unwrap_or(0));
-        }
+fn put(numbers: &[u32], side: &mut [u32]) {
+    for (k, x) in side.iter_mut().enumerate() {
+        *x = numbers.get(k).copied().unwrap_or(0);
     }
 }
 
 // The store against a fresh one of its shape, in as much other memory, that got the survivors of each layer in one call.
 pub(crate) fn compare(rt: &impl Print, store: &Store, survivors: &Survivors) -> io::Result<()> {
-    let fresh = &mut Store::new(0x5A);
+    let mut fresh = Store::new(0x5A);
     fresh.cells.lend(store.cells.lent().len());
     fresh.scales.lend(store.scales.lent().len());
     rt.write_all(b"fresh replies")?;
-    fill(rt, fresh, store, survivors)?;
-    rt.write_all(difference(store, fresh))
+    fill(rt, &mut fresh, store, survivors)?;
+    rt.write_all(difference(store, &fresh))
 }
 
 // Opens the fresh store, appends to it, and tells each reply.
@@ -90,7 +106,7 @@ fn fill(
     let shape = store.shape();
     show::decimal(rt, fresh.open(shape))?;
     for (k, layer) in (0..shape.layers).zip(&survivors.layers) {
-        show::decimal(rt, fresh.append(k, &layer.keys, &layer.values))?;
+        show::decimal(rt, fresh.append(k, layer.keys(), layer.values()))?;
     }
     Ok(())
 }

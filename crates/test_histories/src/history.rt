@@ -1,9 +1,8 @@
 // A store with the calls that were made of it.
-use crate::calls::{Call, MOST_GIVEN};
+use crate::calls::{Call, MOST_GIVEN, Words};
 use crate::fresh::{self, Survivors};
 use crate::show;
 use crate::stores::{Store, damage};
-use arrayvec::ArrayVec;
 use numbers::words::word_to_f32;
 use std::io;
 
@@ -34,7 +33,7 @@ impl History {
             Call::Open(shape) => {
                 let reply = self.store.open(shape);
                 if reply == 0 {
-                    self.survivors = Some(Survivors::new());
+                    self.forget();
                 }
                 self.tell(rt, reply)
             }
@@ -43,11 +42,7 @@ impl History {
                 count,
                 numbers,
             } => {
-                let (keys, values) = numbers.split_at(count.min(numbers.len()));
-                let reply = self.store.append(layer, keys, values);
-                if reply == 0 {
-                    self.keep(layer, count, keys, values);
-                }
+                let reply = self.append(layer, count, numbers);
                 self.tell(rt, reply)
             }
             Call::Truncate { layer, positions } => {
@@ -88,24 +83,13 @@ impl History {
                 scale,
                 places,
                 query,
-            } => {
-                let query = floats(query);
-                let scale = word_to_f32(scale);
-                tell_output(rt, places, |out| {
-                    self.store.scores(layer, head, &query, scale, out)
-                })
-            }
+            } => self.scores(rt, layer, head, scale, places, query),
             Call::Sums {
                 layer,
                 head,
                 places,
                 weights,
-            } => {
-                let weights = floats(weights);
-                tell_output(rt, places, |out| {
-                    self.store.sums(layer, head, &weights, out)
-                })
-            }
+            } => self.sums(rt, layer, head, places, weights),
             Call::Lend { cells, scales } => {
                 self.store.cells.lend(cells);
                 self.store.scales.lend(scales);
@@ -134,6 +118,59 @@ impl History {
     fn tell(&self, rt: &impl Print, reply: u32) -> io::Result<()> {
         println!(rt; "reply {reply}")?;
         show::store(rt, &self.store)
+    }
+
+    // Appends the numbers of a line, of which the first `count` are keys.
+    fn append(&mut self, layer: u32, count: usize, numbers: Words) -> u32 {
+        let mut space = [0; MOST_GIVEN];
+        let n = numbers.read(&mut space, |word| word);
+        let (keys, values) = space[..n].split_at(count.min(n));
+        let reply = self.store.append(layer, keys, values);
+        if reply == 0 {
+            self.keep(layer, count, keys, values);
+        }
+        reply
+    }
+
+    fn scores(
+        &self,
+        rt: &impl Print,
+        layer: u32,
+        head: u32,
+        scale: u32,
+        places: usize,
+        query: Words,
+    ) -> io::Result<()> {
+        let mut space = [0.0; MOST_GIVEN];
+        let n = query.read(&mut space, |word| word_to_f32(word));
+        let scale = word_to_f32(scale);
+        tell_output(rt, places, |out| {
+            self.store.scores(layer, head, &space[..n], scale, out)
+        })
+    }
+
+    fn sums(
+        &self,
+        rt: &impl Print,
+        layer: u32,
+        head: u32,
+        places: usize,
+        weights: Words,
+    ) -> io::Result<()> {
+        let mut space = [0.0; MOST_GIVEN];
+        let n = weights.read(&mut space, |word| word_to_f32(word));
+        tell_output(rt, places, |out| {
+            self.store.sums(layer, head, &space[..n], out)
+        })
+    }
+
+    // Of an empty store none survive.
+    fn forget(&mut self) {
+        if let Some(survivors) = &mut self.survivors {
+            survivors.clear();
+        } else {
+            self.survivors = Some(Survivors::new());
+        }
     }
 
     // The keys and values of an accepted append survive.
@@ -166,16 +203,4 @@ fn tell_output<F: Fn(&mut [u32]) -> u32>(rt: &impl Print, places: usize, call: F
     let out = &mut space[..places.min(MOST_PLACES)];
     let reply = call(out);
     show::output(rt, reply, out)
-}
-
-// The floats that words stand for, of which a line gives no more than fit.
-fn floats(words: &[u32]) -> ArrayVec<f32, MOST_GIVEN> {
-    let mut floats = ArrayVec::new();
-    for word in words {
-        if floats.is_full() {
-            break;
-        }
-        floats.push(word_to_f32(*word));
-    }
-    floats
 }

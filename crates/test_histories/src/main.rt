@@ -8,8 +8,7 @@ mod history;
 mod show;
 mod stores;
 
-use arrayvec::ArrayVec;
-use calls::{Call, read_words};
+use calls::{Call, Words};
 use history::History;
 use std::io;
 
@@ -22,11 +21,9 @@ fn main(rt: HostRuntime) -> io::Result<()> {
 // One call after the other.
 fn play(rt: &impl Print, text: &[u8]) -> io::Result<()> {
     let mut history = History::new();
-    let mut words = ArrayVec::new();
     let mut rest = text;
     while let Some((line, after)) = test_lines::first_line(rest) {
-        read_words(line, &mut words);
-        history.play(rt, Call::from(words.as_slice()))?;
+        history.play(rt, Call::from(Words::of(line)))?;
         rest = after;
     }
     Ok(())
